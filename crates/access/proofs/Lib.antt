@@ -1,0 +1,3 @@
+pub mod BitLaws
+pub mod SetLaws
+pub mod NumberLaws
