@@ -1,0 +1,5 @@
+pub mod Tables
+pub mod Alike
+pub mod Judgements
+pub mod Counts
+pub mod Sound
