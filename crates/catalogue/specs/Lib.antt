@@ -3,3 +3,4 @@ pub mod Alike
 pub mod Judgements
 pub mod Counts
 pub mod Sound
+pub mod Calls

@@ -9,6 +9,7 @@ use Rattle.std.specs.Results.{isOk}
 use Rattle.std.specs.declared.option.Option.the-variants.{Some}
 use Rattle.access.specs.declared.entities.Entity.{Entity}
 use Rattle.access.specs.declared.rights.RightRecord.{RightRecord}
+use Rattle.access.specs.declared.roles.Link.{Link}
 use Rattle.access.specs.declared.roles.Member.{Member}
 use Rattle.access.specs.declared.code.Action.{Action}
 use Rattle.access.specs.declared.code.Action.the-variants as action
@@ -37,26 +38,40 @@ callFits es (action.Join m) = false
 abbrev pub TakesLine : List Entity → Line → Type 0
 TakesLine es l = (objectFits es (l .object) ≡ true) × (runnerFits es (l .runner) ≡ true) × (callFits es (l .action) ≡ true)
 
--- the entities and links could stand in a book, a book would take each other record, and no list passes 4,096
-pub record Sound (l : Lists) : Type 0 where
-  pub first : take 3 (l .entities) ≡ newEntities
-  pub entities : InTurn TakesEntity newEntities (drop 3 (l .entities))
-  pub links : Linked (l .entities) (l .links)
-  pub links-once : Once sameLink (l .links)
-  pub links-few : length (l .links) ≤ 64
-  pub rights : All (TakesRight (l .entities)) (l .rights)
-  pub rights-few : length (l .rights) ≤ 4096
-  pub members : All (TakesMember (l .entities)) (l .members)
-  pub members-few : length (l .members) ≤ 4096
-  pub lines : All (TakesLine (l .entities)) (l .lines)
-  pub lines-few : length (l .lines) ≤ 4096
+-- the entities could stand in a book: those of a new book, and then others that were declared in turn
+pub record Declared (es : List Entity) : Type 0 where
+  pub first : take 3 es ≡ newEntities
+  pub turns : InTurn TakesEntity newEntities (drop 3 es)
 
--- a book's lists are sound, have each record once, and stay within the limits of a book
+-- the links could stand in a book: none closed a circle when it came, none stands twice, and there are at most 64
+pub record LinksStand (es : List Entity) (links : List Link) : Type 0 where
+  pub linked : Linked es links
+  pub once : Once sameLink links
+  pub few : length links ≤ 64
+
+-- a list of a catalogue: a book would take each record, and there are at most 4,096
+pub record Listed {X : Type 0} (takes : X → Type 0) (xs : List X) : Type 0 where
+  pub fit : All takes xs
+  pub few : length xs ≤ 4096
+
+-- a list of a book: a book takes each record, none stands twice, and there are no more than its limit
+pub record Filed {X : Type 0} (takes : X → Type 0) (alike : X → X → Bool) (limit : ℕ) (xs : List X) : Type 0 where
+  pub fit : All takes xs
+  pub once : Once alike xs
+  pub few : length xs ≤ limit
+
+-- what a catalogue may mean: entities and links that could stand in a book, other records that a book would take
+pub record Sound (l : Lists) : Type 0 where
+  pub entities : Declared (l .entities)
+  pub links : LinksStand (l .entities) (l .links)
+  pub rights : Listed (TakesRight (l .entities)) (l .rights)
+  pub members : Listed (TakesMember (l .entities)) (l .members)
+  pub lines : Listed (TakesLine (l .entities)) (l .lines)
+
+-- what a book may hold
 pub record Kept (l : Lists) : Type 0 where
-  pub sound : Sound l
-  pub rights-once : Once sameRight (l .rights)
-  pub rights-room : length (l .rights) ≤ 256
-  pub members-once : Once sameMember (l .members)
-  pub members-room : length (l .members) ≤ 128
-  pub lines-once : Once sameLine (l .lines)
-  pub lines-room : length (l .lines) ≤ 256
+  pub entities : Declared (l .entities)
+  pub links : LinksStand (l .entities) (l .links)
+  pub rights : Filed (TakesRight (l .entities)) sameRight 256 (l .rights)
+  pub members : Filed (TakesMember (l .entities)) sameMember 128 (l .members)
+  pub lines : Filed (TakesLine (l .entities)) sameLine 256 (l .lines)
