@@ -18,7 +18,7 @@ unfolding bit
 bit-zero k = ap (λ (x : ℕ). eqb (x % 2) 1) (zero-div (2 ^ k))
 
 -- a number below a power of two has no bit from there on
-bit-past : (n m k : ℕ) → n < 2 ^ m → m ≤ k → bit n k ≡ false
+pub bit-past : (n m k : ℕ) → n < 2 ^ m → m ≤ k → bit n k ≡ false
 unfolding bit
 bit-past n m k h l = ap (λ (x : ℕ). eqb (x % 2) 1) (div-eq-of-lt (lt-of-lt-of-le h (pow-mono l)))
 

@@ -27,7 +27,7 @@ use Rattle.access.specs.Orders.{InTurn, Rooted}
 use Rattle.catalogue.specs.Judgements.{judged, judgedKind, entityReasons, entityNamed, ofKind, countKind, limitOf, given}
 use Rattle.catalogue.specs.Sound.{TakesEntity, Declared}
 use Rattle.catalogue.proofs.Judging.{judged-ok}
-use Rattle.catalogue.proofs.Turns.{turn-push, turn-ind}
+use Rattle.access.proofs.Turns.{turn-push, turn-ind}
 use Rattle.catalogue.proofs.Standing.{nth-stays, nth-last, nth-below, fits-stays}
 
 taken-ok : {X : Type 0} (r : Result X Code) → isOk r ≡ true → (x : X) × (r ≡ Ok x)
@@ -45,7 +45,7 @@ taken es x t =
     let off = judged-ok (entityReasons es (x .parent) (x .owner) (Some (x .mode)) (x .kind)) (entityNamed (x .parent) (x .owner) (Some (x .mode)) (x .kind)) y e .0 in
     record {
       parent = and-parts _ _ (not-false _ (off .1 .0)) .0;
-      room = ltb-true _ _ (not-false _ (off .1 .1 .1 .0))
+      room = ltb-true _ _ (not-false _ (off .1 .1 .1 .0));
     }
 
 -- what holds of a new book's entities and is kept by each declaration holds
@@ -65,7 +65,7 @@ declared-push es x d t =
     record {
       first = take-append-le 3 es (x ∷ []) long ∙ d .first;
       turns = subst (InTurn TakesEntity newEntities) (sym (drop-append-le 3 es (x ∷ []) long))
-        (turn-push TakesEntity newEntities (drop 3 es) x (d .turns) (subst (λ b. TakesEntity b x) (sym whole) t))
+          (turn-push TakesEntity newEntities (drop 3 es) x (d .turns) (subst (λ b. TakesEntity b x) (sym whole) t));
     }
 
 -- How many there are
@@ -90,9 +90,10 @@ count-push es x few t k =
     let pushed = sumBy-push (λ e. cond (ofKind k e) 1 0) es x in
     let old = few k in
     elim (cases-bool (ofKind k x)) [
-      inl e ↦ let at : countKind k es < limitOf k = subst (λ j. countKind j es < limitOf j) (same-kind (x .kind) k e) (taken es x t .room) in
-              omega (arith, pushed, ap (λ b. cond {A = ℕ} b 1 0) e)
-    | inr e ↦ omega (arith, pushed, ap (λ b. cond {A = ℕ} b 1 0) e) ]
+      | inl e ↦ let at : countKind k es < limitOf k = subst (λ j. countKind j es < limitOf j) (same-kind (x .kind) k e) (taken es x t .room) in
+          omega (arith, pushed, ap (λ b. cond {A = ℕ} b 1 0) e)
+      | inr e ↦ omega (arith, pushed, ap (λ b. cond {A = ℕ} b 1 0) e)
+    ]
 
 few-new : Few newEntities
 few-new Container = lit≤ tt

@@ -74,9 +74,9 @@ judged-entity es k p o m x j = go (kindAt k) j
     go (Some a) e =
         let f = fields-named es p o (modeAt m) a x e in
         let t : judgedKind es (x .parent) (x .owner) (Some (x .mode)) (Some (x .kind)) ≡ Ok x =
-          subst (λ c. judgedKind es (x .parent) (x .owner) (Some (x .mode)) (Some c) ≡ Ok x) (f .2)
-            (subst (λ q. judgedKind es (x .parent) q (Some (x .mode)) (Some a) ≡ Ok x) (f .1)
-              (subst (λ q. judgedKind es q o (Some (x .mode)) (Some a) ≡ Ok x) (f .0) (mode-named es p o (modeAt m) a x e))) in
+        subst (λ c. judgedKind es (x .parent) (x .owner) (Some (x .mode)) (Some c) ≡ Ok x) (f .2)
+        (subst (λ q. judgedKind es (x .parent) q (Some (x .mode)) (Some a) ≡ Ok x) (f .1)
+        (subst (λ q. judgedKind es q o (Some (x .mode)) (Some a) ≡ Ok x) (f .0) (mode-named es p o (modeAt m) a x e))) in
         ap isOk t
 
 pub judged-right : (es : List Entity) (p e a o : ℕ) (x : RightRecord) → judgedRight es p e a o ≡ Ok x → TakesRight es x

@@ -1,7 +1,6 @@
 pub mod Search
 pub mod Placing
 pub mod Judging
-pub mod Turns
 pub mod Standing
 pub mod Declaring
 pub mod Linking

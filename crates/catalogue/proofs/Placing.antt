@@ -59,7 +59,7 @@ module _ {X : Type 0} where
       go (Some n) = h
       go None =
           cond-both (ltb (length xs) limit) _ _ (λ (t : Result ℕ Code × List X). length (t .1) ≤ limit)
-            (λ e. omega (arith, length-push xs x, ltb-true (length xs) limit e)) (λ _. h)
+          (λ e. omega (arith, length-push xs x, ltb-true (length xs) limit e)) (λ _. h)
 
   -- a record is changed in place to one that is like the same records
   pub once-set : (alike : X → X → Bool) (xs : List X) (n : ℕ) (old new : X) → nth xs n ≡ Some old
@@ -68,6 +68,7 @@ module _ {X : Type 0} where
   once-set alike (y ∷ ys) zero old new e l r h =
       let same : y ≡ old = cc in
       (all-weaker (λ z. alike y z ≡ false) (λ z. alike new z ≡ false) (λ z f. r z ∙ ap (λ w. alike w z) (sym same) ∙ f) ys (h .0), h .1)
-  once-set alike (y ∷ ys) (suc n) old new e l r h =
-      (all-set (λ z. alike y z ≡ false) ys n new (l y ∙ nth-all (λ z. alike y z ≡ false) ys n old e (h .0)) (h .0),
-       once-set alike ys n old new e l r (h .1))
+  once-set alike (y ∷ ys) (suc n) old new e l r h = (
+    all-set (λ z. alike y z ≡ false) ys n new (l y ∙ nth-all (λ z. alike y z ≡ false) ys n old e (h .0)) (h .0),
+    once-set alike ys n old new e l r (h .1),
+  )

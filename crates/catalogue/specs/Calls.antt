@@ -72,24 +72,24 @@ raised true (Ok n) rs = raisedAt rs (nth rs n) n
 abbrev pub declared : Lists → ℕ → ℕ → ℕ → ℕ → Outcome
 declared l k p o m =
     unless l (λ x. record { answer = Ok (length (l .entities)); lists = withEntities l (l .entities ++ x ∷ []) })
-      (judgedEntity (l .entities) k p o m)
+    (judgedEntity (l .entities) k p o m)
 
 abbrev pub linked : Lists → ℕ → ℕ → Outcome
 linked l lower upper =
     unless l (λ x. record { answer = placedLink l x .0; lists = withLinks l (placedLink l x .1) })
-      (judgedLink (l .entities) (l .links) lower upper)
+    (judgedLink (l .entities) (l .links) lower upper)
 
 abbrev pub granted : Lists → ℕ → ℕ → ℕ → ℕ → Outcome
 granted l p e a o =
     unless l (λ x. record { answer = placedRight l x .0; lists = withRights l (raised (x .option) (placedRight l x .0) (placedRight l x .1)) })
-      (judgedRight (l .entities) p e a o)
+    (judgedRight (l .entities) p e a o)
 
 abbrev pub joined : Lists → ℕ → ℕ → Outcome
 joined l a r =
     unless l (λ x. record { answer = placedMember l x .0; lists = withMembers l (placedMember l x .1) })
-      (judgedMember (l .entities) a r)
+    (judgedMember (l .entities) a r)
 
 abbrev pub lined : Lists → ObjectNumbers → ℕ → ObjectNumbers → Outcome
 lined l x r y =
     unless l (λ c. record { answer = placedLine l c .0; lists = withLines l (placedLine l c .1) })
-      (judgedLine (l .entities) x r y)
+    (judgedLine (l .entities) x r y)

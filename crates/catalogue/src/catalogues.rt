@@ -27,40 +27,54 @@ pub trait Catalogue {
         ensures { λ r. ⌜ r ≡ countOf (meaning (now (self .entry))) list ⌝ };
 
     // The record of a number, or none past the end of its list.
-    fn entity(&self, n: usize) -> Option<Entity>
+    fn entity_at(&self, n: usize) -> Option<Entity>
         requires { ⌜ Sound (meaning (now self)) ⌝ }
         ensures { λ r. ⌜ r ≡ nth (meaning (now (self .entry)) .entities) n ⌝ };
 
-    fn link(&self, n: usize) -> Option<Link>
+    fn link_at(&self, n: usize) -> Option<Link>
         requires { ⌜ Sound (meaning (now self)) ⌝ }
         ensures { λ r. ⌜ r ≡ nth (meaning (now (self .entry)) .links) n ⌝ };
 
-    fn right(&self, n: usize) -> Option<RightRecord>
+    fn right_at(&self, n: usize) -> Option<RightRecord>
         requires { ⌜ Sound (meaning (now self)) ⌝ }
         ensures { λ r. ⌜ r ≡ nth (meaning (now (self .entry)) .rights) n ⌝ };
 
-    fn member(&self, n: usize) -> Option<Member>
+    fn member_at(&self, n: usize) -> Option<Member>
         requires { ⌜ Sound (meaning (now self)) ⌝ }
         ensures { λ r. ⌜ r ≡ nth (meaning (now (self .entry)) .members) n ⌝ };
 
-    fn line(&self, n: usize) -> Option<Line>
+    fn line_at(&self, n: usize) -> Option<Line>
         requires { ⌜ Sound (meaning (now self)) ⌝ }
         ensures { λ r. ⌜ r ≡ nth (meaning (now (self .entry)) .lines) n ⌝ };
 }
 
 // The right record that the numbers name, or why a book with the catalogue's entities does not take it.
-pub fn judge_right<C: Catalogue>(c: &C, principal: u8, entity: u8, right: u8, option: u8) -> Result<RightRecord, Refusal>
+pub fn judge_right<C: Catalogue>(
+    c: &C,
+    principal: u8,
+    entity: u8,
+    right: u8,
+    option: u8,
+) -> Result<RightRecord, Refusal>
     requires { ⌜ Sound (meaning (now c)) ⌝ }
     ensures { λ r. ⌜ coded r ≡ judgedRight (meaning (now (c .entry)) .entities) principal entity right option ⌝ }
 {
     let (Some(right), Some(option)) = (Right::listed(right), option_listed(option)) else {
         return Err(Refusal::NotListed);
     };
-    let (Some(who), Some(_)) = (c.entity(principal as usize), c.entity(entity as usize)) else {
+    let (Some(who), Some(_)) = (
+        c.entity_at(principal as usize),
+        c.entity_at(entity as usize),
+    ) else {
         return Err(Refusal::NotListed);
     };
     match who.kind {
-        Kind::Account | Kind::Role => Ok(RightRecord { principal, entity, right, option }),
+        Kind::Account | Kind::Role => Ok(RightRecord {
+            principal,
+            entity,
+            right,
+            option,
+        }),
         _ => Err(Refusal::WrongKind),
     }
 }
@@ -70,7 +84,8 @@ pub fn judge_member<C: Catalogue>(c: &C, account: u8, role: u8) -> Result<Member
     requires { ⌜ Sound (meaning (now c)) ⌝ }
     ensures { λ r. ⌜ coded r ≡ judgedMember (meaning (now (c .entry)) .entities) account role ⌝ }
 {
-    let (Some(who), Some(group)) = (c.entity(account as usize), c.entity(role as usize)) else {
+    let (Some(who), Some(group)) = (c.entity_at(account as usize), c.entity_at(role as usize))
+    else {
         return Err(Refusal::NotListed);
     };
     match (who.kind, group.kind) {

@@ -105,7 +105,8 @@ fn principal_at(entities: &[Entity], n: u8) -> bool
 fn entity_fits(entities: &[Entity], parent: u8, owner: u8, kind: Kind) -> bool
     ensures { λ r. ⌜ r ≡ entityFits (now (entities .entry)) parent owner kind ⌝ }
 {
-    container_at(entities, parent) && (principal_at(entities, owner) || own_number(entities, owner, kind))
+    container_at(entities, parent)
+        && (principal_at(entities, owner) || own_number(entities, owner, kind))
 }
 
 fn entity_given(entities: &[Entity], parent: u8, owner: u8, kind: Kind) -> bool
@@ -118,7 +119,13 @@ fn entity_given(entities: &[Entity], parent: u8, owner: u8, kind: Kind) -> bool
 }
 
 // The same for a kind and a mode that were looked up.
-fn judge_kind(entities: &[Entity], parent: u8, owner: u8, mode: Option<Mode>, kind: Kind) -> Result<Entity, Refusal>
+fn judge_kind(
+    entities: &[Entity],
+    parent: u8,
+    owner: u8,
+    mode: Option<Mode>,
+    kind: Kind,
+) -> Result<Entity, Refusal>
     ensures { λ r. ⌜ coded r ≡ judgedKind (now (entities .entry)) parent owner mode (Some kind) ⌝ }
 {
     if !entity_listed(entities, parent, owner, mode, kind) {
@@ -134,11 +141,22 @@ fn judge_kind(entities: &[Entity], parent: u8, owner: u8, mode: Option<Mode>, ki
         return Err(Refusal::Full);
     }
     let mode = mode.unwrap_or(Mode::Creator);
-    Ok(Entity { kind, parent, owner, mode })
+    Ok(Entity {
+        kind,
+        parent,
+        owner,
+        mode,
+    })
 }
 
 // The entity that the numbers name, or why a book with these entities does not take it next.
-pub fn judge_entity(entities: &[Entity], kind: u8, parent: u8, owner: u8, mode: u8) -> Result<Entity, Refusal>
+pub fn judge_entity(
+    entities: &[Entity],
+    kind: u8,
+    parent: u8,
+    owner: u8,
+    mode: u8,
+) -> Result<Entity, Refusal>
     ensures { λ r. ⌜ coded r ≡ judgedEntity (now (entities .entry)) kind parent owner mode ⌝ }
 {
     let Some(kind) = Kind::listed(kind) else {

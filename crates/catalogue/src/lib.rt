@@ -2,14 +2,17 @@
 mod catalogues;
 mod entities;
 mod lines;
+mod links;
 mod names;
 mod records;
 mod tables;
+
 pub use catalogues::Catalogue;
 pub use catalogues::judge_member;
 pub use catalogues::judge_right;
 pub use entities::judge_entity;
 pub use lines::judge_line;
+pub use links::judge_link;
 pub use names::ListName;
 pub use records::LineSame;
 pub use records::LinkSame;

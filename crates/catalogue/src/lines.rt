@@ -52,18 +52,29 @@ fn runner_fits(entities: &[Entity], runner: Runner) -> bool
 }
 
 // The line that the numbers name, or why a book with these entities does not take it.
-pub fn judge_line(entities: &[Entity], object: ObjectNumbers, runner: u8, called: ObjectNumbers) -> Result<Line, Refusal>
+pub fn judge_line(
+    entities: &[Entity],
+    object: ObjectNumbers,
+    runner: u8,
+    called: ObjectNumbers,
+) -> Result<Line, Refusal>
     ensures { λ r. ⌜ coded r ≡ judgedLine (now (entities .entry)) object runner called ⌝ }
 {
     let (Some(x), Some(y)) = (Object::listed(object), Object::listed(called)) else {
         return Err(Refusal::NotListed);
     };
     let runner = Runner::listed(runner);
-    if !(stands_at(entities, x.place()) && runner_stands(entities, runner) && stands_at(entities, y.place())) {
+    if !(stands_at(entities, x.place())
+        && runner_stands(entities, runner)
+        && stands_at(entities, y.place())) {
         return Err(Refusal::NotListed);
     }
     if !(object_fits(entities, x) && runner_fits(entities, runner) && object_fits(entities, y)) {
         return Err(Refusal::WrongKind);
     }
-    Ok(Line { object: x, runner, action: Action::Call(y) })
+    Ok(Line {
+        object: x,
+        runner,
+        action: Action::Call(y),
+    })
 }

@@ -23,7 +23,9 @@ pub impl Same for RightRecord as RightSame {
     ghost alike = { sameRight };
 
     fn same(&self, other: &RightRecord) -> bool {
-        self.principal == other.principal && self.entity == other.entity && self.right as u8 == other.right as u8
+        self.principal == other.principal
+            && self.entity == other.entity
+            && self.right as u8 == other.right as u8
     }
 }
 
@@ -40,7 +42,8 @@ fn same_object(x: Object, y: Object) -> bool
 {
     match (x, y) {
         (Object::Procedure(a), Object::Procedure(b)) => a == b,
-        (Object::Triggers(a, p), Object::Triggers(b, q)) => a == b && p.right().number() == q.right().number(),
+        (Object::Triggers(a, p), Object::Triggers(b, q)) => a == b
+            && p.right().number() == q.right().number(),
         (Object::Created(a), Object::Created(b)) => a == b,
         _ => false,
     }
@@ -69,6 +72,8 @@ pub impl Same for Line as LineSame {
     ghost alike = { sameLine };
 
     fn same(&self, other: &Line) -> bool {
-        same_object(self.object, other.object) && same_runner(self.runner, other.runner) && same_call(self.action, other.action)
+        same_object(self.object, other.object)
+            && same_runner(self.runner, other.runner)
+            && same_call(self.action, other.action)
     }
 }

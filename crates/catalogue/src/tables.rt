@@ -16,7 +16,11 @@ pub trait Same {
 pub fn record_at<T: Copy>(table: &[T], n: usize) -> Option<T>
     ensures { λ r. ⌜ r ≡ nth (now (table .entry)) n ⌝ }
 {
-    if n < table.len() { Some(table[n]) } else { None }
+    if n < table.len() {
+        Some(table[n])
+    } else {
+        None
+    }
 }
 
 // The number of the first record that stands for the same as x.

@@ -1,0 +1,11 @@
+// A book: the catalogue that building calls fill.
+mod books;
+mod calls;
+mod placing;
+
+pub use books::Book;
+pub use books::reading::BookCatalogue;
+pub use calls::Answer;
+pub use calls::Call;
+pub use calls::apply;
+pub use calls::fill;

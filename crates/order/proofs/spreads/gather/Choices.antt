@@ -1,0 +1,11 @@
+use mathlib.Core.Path.{_≡_}
+use mathlib.Core.Bool.{true}
+use Prim.Native.Nat.{ℕ}
+use Rattle.std.specs.Orderings.{Decides}
+use Rattle.access.specs.Bits.{bit}
+use Rattle.access.specs.Sets.{told}
+use Rattle.order.specs.Spreads.{Carried}
+use Rattle.order.proofs.spreads.gather.Given as given
+
+abbrev pub Inv-loop-y : given.InvT-loop-y
+Inv-loop-y l = (k : ℕ) → Decides (bit (l .all .bits) k) (Carried (λ _ y. bit (l .above) y ≡ true) (told (l .base .sets)) (l .y) 0 k)
