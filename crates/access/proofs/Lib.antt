@@ -1,4 +1,3 @@
 pub mod BitLaws
 pub mod SetLaws
-pub mod NumberLaws
 pub mod Turns

@@ -1,10 +1,12 @@
 // The words of the access model: entities, rights, code, refusals, and sets of rights.
+mod bits;
 mod code;
 mod entities;
 mod refusals;
 mod rights;
 mod roles;
 mod sets;
+mod text;
 
 pub use code::Action;
 pub use code::Event;
@@ -22,3 +24,16 @@ pub use rights::option_listed;
 pub use roles::Link;
 pub use roles::Member;
 pub use sets::RightSet;
+pub use text::codes::RefusalText;
+pub use text::entities::EntityText;
+pub use text::names::EventText;
+pub use text::names::KindText;
+pub use text::names::ModeText;
+pub use text::names::RightText;
+pub use text::records::ActionText;
+pub use text::records::LineText;
+pub use text::records::LinkText;
+pub use text::records::MemberText;
+pub use text::records::ObjectText;
+pub use text::records::RightRecordText;
+pub use text::records::RunnerText;

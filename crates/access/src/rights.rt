@@ -1,5 +1,6 @@
 // What a principal may do with an entity.
 ghost use mathlib.Core.Path.{_≡_};
+ghost use Prim.Native.Nat.{_<_};
 ghost use Rattle.access.specs.Numbers.{rightAt, rightNumber, optionAt};
 ghost use Rattle.std.specs.declared.option.Option.the-variants.{Some};
 
@@ -33,6 +34,7 @@ impl Right {
 
     pub fn number(self) -> u8
         ensures value { λ r. ⌜ r ≡ rightNumber self ⌝ }
+        ensures small { λ r. ⌜ r < 7 ⌝ }
         ensures back { λ r. ⌜ rightAt r ≡ Some self ⌝ }
     {
         self as u8

@@ -1,10 +1,15 @@
-// Sets of rights, and a set for each entity.
+// Sets of rights.
 ghost use mathlib.Core.Path.{_≡_};
-ghost use mathlib.Core.Bool.{Bool, true, false, _||_, _&&_};
+ghost use mathlib.Core.Bool.{false, _||_};
 ghost use Prim.Native.Nat.{ℕ, _<_, _^_};
 ghost use lib.Dec.{eqb, ltb};
 ghost use Rattle.access.specs.Bits.{bit};
 ghost use Rattle.access.specs.Numbers.{rightNumber};
+use crate::bits::bit_of;
+use crate::bits::both;
+use crate::bits::has_bit;
+use crate::bits::no_bits;
+use crate::bits::seven_bits;
 use crate::rights::Right;
 
 // A set of rights: bit k stands for the right of number k.
@@ -15,21 +20,17 @@ pub struct RightSet {
 }
 
 impl RightSet {
-    pub const EMPTY: RightSet = RightSet { bits: 0 };
-
-    pub const FULL: RightSet = RightSet { bits: 127 };
-
     pub fn empty() -> Self
         ensures { λ r. ⌜ ((k : ℕ) → bit (r .bits) k ≡ false) ⌝ }
     {
-        Self::EMPTY
+        RightSet { bits: no_bits() }
     }
 
     // All seven rights.
     pub fn full() -> Self
         ensures { λ r. ⌜ ((k : ℕ) → bit (r .bits) k ≡ ltb k 7) ⌝ }
     {
-        Self::FULL
+        RightSet { bits: seven_bits() }
     }
 
     // The set with one right more.
@@ -37,21 +38,21 @@ impl RightSet {
         ensures { λ r. ⌜ ((k : ℕ) → bit (r .bits) k ≡ (bit (self .bits) k || eqb k (rightNumber right))) ⌝ }
     {
         RightSet {
-            bits: self.bits | (1 << right.number()),
+            bits: both(self.bits, bit_of(right.number())),
         }
     }
 
     pub fn has(self, right: Right) -> bool
         ensures { λ r. ⌜ r ≡ bit (self .bits) (rightNumber right) ⌝ }
     {
-        (self.bits >> right.number()) & 1 == 1
+        has_bit(self.bits, right.number())
     }
 
     pub fn union(self, other: Self) -> Self
         ensures { λ r. ⌜ ((k : ℕ) → bit (r .bits) k ≡ (bit (self .bits) k || bit (other .bits) k)) ⌝ }
     {
         RightSet {
-            bits: self.bits | other.bits,
+            bits: both(self.bits, other.bits),
         }
     }
 }

@@ -2,6 +2,7 @@
 mod books;
 mod calls;
 mod placing;
+mod text;
 
 pub use books::Book;
 pub use books::reading::BookCatalogue;
@@ -9,3 +10,5 @@ pub use calls::Answer;
 pub use calls::Call;
 pub use calls::apply;
 pub use calls::fill;
+pub use text::AnswerText;
+pub use text::CallText;

@@ -1,13 +1,12 @@
 -- Laws of what is carried along an order.
-use mathlib.Core.Path.{_≡_, refl, sym, ap, _∙_, subst}
-use mathlib.Core.Bool.{Bool, true, false, _||_, _&&_, or-false}
+use mathlib.Core.Path.{_≡_, sym, ap, _∙_, subst}
+use mathlib.Core.Bool.{Bool, true, false, _||_}
 use mathlib.Core.Logic.{⊎-elim}
-use Prim.Native.Nat.{ℕ, _<_, _≤_, _+_}
+use Prim.Native.Nat.{ℕ, _<_, _+_}
 use native.Mathlib.Omega.{arith}
-use lib.Dec.{eqb}
 use Rattle.std.specs.Orderings.{Decides}
-use Rattle.std.proofs.shelf.Tests.{cases-eq, eq-eqb, ne-eqb, both-ways, or-cases, or-left, or-right}
-use Rattle.std.proofs.shelf.Ways.{decides-at, decides-like}
+use Rattle.std.proofs.shelf.Tests.{cases-eq, both-ways, or-cases, or-left, or-right}
+use Rattle.std.proofs.shelf.Ways.{decides-at}
 use Rattle.order.specs.Spreads.{Carried}
 
 module _ (below : ℕ → ℕ → Type 0) (base : ℕ → ℕ → Bool) (x k : ℕ) where
@@ -35,13 +34,9 @@ module _ (below : ℕ → ℕ → Type 0) (base : ℕ → ℕ → Bool) (x k : �
         (λ h. d .1 (record { from = c .from; small = omega arith; over = c .over; has = c .has })) (cases-eq (c .from) n),
   )
 
--- a place of one order is a place of another that has the same places above it
-pub carried-over : (b c : ℕ → ℕ → Type 0) (base : ℕ → ℕ → Bool) (n w x k : ℕ) → ((y : ℕ) → b w y → c x y) → Carried b base n w k → Carried c base n x k
-carried-over b c base n w x k f r = record { from = r .from; small = r .small; over = f (r .from) (r .over); has = r .has }
+-- what a loop's turn has put together
+pub or-chain : (new all old read there : Bool) → new ≡ all → all ≡ (old || read) → read ≡ there → new ≡ (old || there)
+or-chain new all old read there p q e = p ∙ q ∙ ap (λ b. old || b) e
 
--- the rights at x are put in, and those at each other place stay
-pub spread-here : (old new there own : Bool) → old ≡ false → there ≡ true → new ≡ (old || ((there && true) && own)) → new ≡ own
-spread-here old new there own a b e = e ∙ ap (λ o. o || ((there && true) && own)) a ∙ ap (λ t. (t && true) && own) b
-
-pub spread-there : (old new there own : Bool) → there ≡ false → new ≡ (old || ((there && true) && own)) → new ≡ old
-spread-there old new there own b e = e ∙ ap (λ t. old || ((t && true) && own)) b ∙ or-false old
+pub test-is : (r b v : Bool) → r ≡ b → r ≡ v → b ≡ v
+test-is r b v p q = sym p ∙ q

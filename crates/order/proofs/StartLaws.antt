@@ -1,24 +1,22 @@
 -- The rows of roles as they start: each role has its own bit and that of sysadmin.
-use mathlib.Core.Path.{_≡_, refl, sym, ap, _∙_, subst}
+use mathlib.Core.Path.{_≡_, sym, ap, _∙_}
 use mathlib.Core.Bool.{Bool, true, false, _&&_, _||_, or-false}
 use mathlib.Core.List.{List}
 use mathlib.Core.Logic.{⊎-elim}
-use Prim.Native.Nat.{ℕ, _+_, _<_, _≤_, _^_}
+use Prim.Native.Nat.{ℕ, _+_, _<_, _≤_}
 use native.Mathlib.Omega.{arith}
-use lib.Bits.{bitOr}
 use lib.Dec.{eqb}
 use lib.ListN.{length, getD, set}
 use Rattle.std.proofs.shelf.Lists.{getD-set-same, getD-set-other}
 use Rattle.std.proofs.shelf.Maps.{nth-past}
 use Rattle.std.proofs.shelf.Tests.{cases-eq, cases-lt, eq-eqb, ne-eqb}
-use Rattle.std.proofs.shelf.Ways.{same-from-decides, decides-like, decides-eqb}
 use Rattle.access.specs.Bits.{bit}
 use Rattle.access.specs.Lists.{fits, isRole, passes, sysadmin}
 use Rattle.access.specs.Orders.{unlinked}
 use Rattle.access.specs.declared.entities.Entity.{Entity}
-use Rattle.access.proofs.BitLaws.{bit-or, bit-power}
 use Rattle.access.proofs.SetLaws.{bit-zero}
 use Rattle.order.specs.Rows.{leq}
+use Rattle.order.proofs.BitTests.{eqb-flip}
 
 -- the entities before i are done, and what belongs to the others is empty
 pub record Started (es : List Entity) (roles : ℕ) (rows : List ℕ) (i : ℕ) : Type 0 where
@@ -27,39 +25,27 @@ pub record Started (es : List Entity) (roles : ℕ) (rows : List ℕ) (i : ℕ) 
   pub done : (k y : ℕ) → k < i → leq rows k y ≡ unlinked es k y
   pub left : (k : ℕ) → i ≤ k → getD rows k 0 ≡ 0
 
-eqb-flip : (x y : ℕ) → eqb x y ≡ eqb y x
-eqb-flip x y = same-from-decides (eqb x y) (eqb y x) (decides-eqb x y) (decides-like _ (λ e. sym e) (λ e. sym e) (decides-eqb y x))
-
--- the row of a role
-start-row : (x y : ℕ) → bit (bitOr (2 ^ x) 4) y ≡ (eqb x y || eqb y sysadmin)
-start-row x y =
-    bit-or (2 ^ x) 4 y ∙ ap (λ b. b || bit 4 y) (bit-power x y ∙ eqb-flip y x) ∙ ap (λ b. eqb x y || b) (bit-power 2 y)
-
 alone : (es : List Entity) (x y : ℕ) (b : Bool) → fits isRole es x ≡ b → unlinked es x y ≡ (b && (eqb x y || eqb y sysadmin))
 alone es x y b e = ap (λ t. t && (eqb x y || eqb y sysadmin)) e
 
 module _ (es : List Entity) (roles : ℕ) (rows : List ℕ) (i : ℕ) (s : Started es roles rows i) where
   -- the entity at i is a role
-  pub start-role : i < length rows → fits isRole es i ≡ true → Started es (bitOr roles (2 ^ i)) (set rows i (bitOr (2 ^ i) 4)) (i + 1)
-  start-role l role = record {
+  pub start-role : (more row : ℕ) → i < length rows → fits isRole es i ≡ true
+      → ((k : ℕ) → bit more k ≡ (bit roles k || eqb i k)) → ((y : ℕ) → bit row y ≡ (eqb i y || eqb sysadmin y)) → Started es more (set rows i row) (i + 1)
+  start-role more row l role plus own = record {
     named = λ k h. plus k ∙ ⊎-elim
-        (λ (e : k ≡ i). ap (λ b. b || eqb k i) (s .unnamed k (omega arith)) ∙ eq-eqb k i e ∙ sym role ∙ ap (fits isRole es) (sym e))
-        (λ ne. ap (λ b. bit roles k || b) (ne-eqb k i ne) ∙ or-false (bit roles k) ∙ s .named k (omega arith))
-        (cases-eq k i);
-    unnamed = λ k h. plus k ∙ ap (λ b. bit roles k || b) (ne-eqb k i (omega arith)) ∙ or-false (bit roles k) ∙ s .unnamed k (omega arith);
+        (λ (e : i ≡ k). ap (λ b. b || eqb i k) (s .unnamed k (omega arith)) ∙ eq-eqb i k e ∙ sym role ∙ ap (fits isRole es) e)
+        (λ ne. ap (λ b. bit roles k || b) (ne-eqb i k ne) ∙ or-false (bit roles k) ∙ s .named k (omega arith))
+        (cases-eq i k);
+    unnamed = λ k h. plus k ∙ ap (λ b. bit roles k || b) (ne-eqb i k (omega arith)) ∙ or-false (bit roles k) ∙ s .unnamed k (omega arith);
     done = λ k y h. ⊎-elim
-        (λ (e : k ≡ i). ap (λ (j : ℕ). leq new j y) e ∙ ap (λ (r : ℕ). bit r y) (getD-set-same rows i (bitOr (2 ^ i) 4) 0 l) ∙ start-row i y
+        (λ (e : k ≡ i). ap (λ (j : ℕ). leq (set rows i row) j y) e ∙ ap (λ (r : ℕ). bit r y) (getD-set-same rows i row 0 l)
+        ∙ own y ∙ ap (λ b. eqb i y || b) (eqb-flip sysadmin y)
         ∙ sym (alone es i y true role) ∙ ap (λ (j : ℕ). unlinked es j y) (sym e))
-        (λ ne. ap (λ (r : ℕ). bit r y) (getD-set-other rows i k (bitOr (2 ^ i) 4) 0 ne) ∙ s .done k y (omega arith))
+        (λ ne. ap (λ (r : ℕ). bit r y) (getD-set-other rows i k row 0 ne) ∙ s .done k y (omega arith))
         (cases-eq k i);
-    left = λ k h. getD-set-other rows i k (bitOr (2 ^ i) 4) 0 (omega arith) ∙ s .left k (omega arith);
+    left = λ k h. getD-set-other rows i k row 0 (omega arith) ∙ s .left k (omega arith);
   }
-    where
-      new : List ℕ
-      new = set rows i (bitOr (2 ^ i) 4)
-
-      plus : (k : ℕ) → bit (bitOr roles (2 ^ i)) k ≡ (bit roles k || eqb k i)
-      plus k = bit-or roles (2 ^ i) k ∙ ap (λ b. bit roles k || b) (bit-power i k)
 
   -- the entity at i is no role
   pub start-other : fits isRole es i ≡ false → Started es roles rows (i + 1)

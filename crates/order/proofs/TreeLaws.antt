@@ -1,18 +1,17 @@
 -- Laws of `Within`, and of rows that decide it.
 use mathlib.Core.Path.{_≡_, refl, sym, ap, _∙_, subst}
-use mathlib.Core.Bool.{Bool, true, false, _||_}
+use mathlib.Core.Bool.{true, _||_}
 use mathlib.Core.List.{List, [], _∷_}
 use mathlib.Core.Logic.{_⊎_, inl, inr, ⊎-elim}
-use Prim.Native.Nat.{ℕ, zero, suc, _+_, _-_, _<_, _≤_, _^_}
+use Prim.Native.Nat.{ℕ, zero, suc, _+_, _<_, _≤_}
 use native.Mathlib.Omega.{arith}
-use lib.Bits.{bitOr}
 use lib.Dec.{eqb}
 use lib.ListN.{length, getD, set}
 use Rattle.std.specs.Finite.{nth}
 use Rattle.std.specs.Options.{isSome}
 use Rattle.std.specs.Orderings.{Decides}
 use Rattle.std.specs.declared.option.Option.{Option}
-use Rattle.std.specs.declared.option.Option.the-variants.{Some, None}
+use Rattle.std.specs.declared.option.Option.the-variants.{Some}
 use Rattle.std.proofs.shelf.Lists.{getD-set-same, getD-set-other}
 use Rattle.std.proofs.shelf.Maps.{nth-past}
 use Rattle.std.proofs.shelf.Tests.{cases-eq, cases-lt, eq-eqb, eqb-true, both-ways, or-cases, or-left, or-right}
@@ -21,7 +20,6 @@ use Rattle.access.specs.Bits.{bit}
 use Rattle.access.specs.Lists.{stands}
 use Rattle.access.specs.Orders.{Within, Rooted}
 use Rattle.access.specs.declared.entities.Entity.{Entity}
-use Rattle.access.proofs.BitLaws.{bit-or, bit-power}
 use Rattle.access.proofs.SetLaws.{bit-zero}
 use Rattle.order.specs.Rows.{leq}
 
@@ -66,49 +64,43 @@ same-some : {A : Type 0} (o : Option A) (a b : A) → o ≡ Some a → o ≡ Som
 same-some o a b p q = cc
 
 module _ (es : List Entity) (rows : List ℕ) (i : ℕ) (s : Filled es rows i) where
-  -- the entity at i gets its own bit and the row of its parent
-  module _ (rooted : Rooted es) (e : Entity) (at : nth es i ≡ Some e) (l : i < length rows) where
-    row : ℕ
-    row = bitOr (2 ^ i) (getD rows (e .parent) 0)
-
-    row-bit : (y : ℕ) → bit (bitOr (2 ^ i) (getD rows (e .parent) 0)) y ≡ (eqb y i || leq rows (e .parent) y)
-    row-bit y = bit-or (2 ^ i) (getD rows (e .parent) 0) y ∙ ap (λ b. b || leq rows (e .parent) y) (bit-power i y)
-
-    to-within : (y : ℕ) → (eqb y i ≡ true) ⊎ (leq rows (e .parent) y ≡ true) → Within es i y
-    to-within y (inl t) = subst (Within es i) (sym (eqb-true y i t)) (Within.itself (ap isSome at))
+  -- the entity at i gets a row with its own bit and the row of its parent
+  module _ (rooted : Rooted es) (e : Entity) (at : nth es i ≡ Some e) (l : i < length rows) (row : ℕ)
+      (own : (y : ℕ) → bit row y ≡ (eqb i y || leq rows (e .parent) y)) where
+    to-within : (y : ℕ) → (eqb i y ≡ true) ⊎ (leq rows (e .parent) y ≡ true) → Within es i y
+    to-within y (inl t) = subst (Within es i) (eqb-true i y t) (Within.itself (ap isSome at))
     to-within y (inr t) =
         ⊎-elim
         (λ (h : e .parent < i). Within.up at (s .done (e .parent) y h .0 t))
         (λ (h : i ≤ e .parent). absurd (both-ways _ (ap (λ (r : ℕ). bit r y) (s .left (e .parent) h) ∙ bit-zero y) t))
         (cases-lt (e .parent) i)
 
-    from-within : (y : ℕ) → Within es i y → (eqb y i || leq rows (e .parent) y) ≡ true
+    from-within : (y : ℕ) → Within es i y → (eqb i y || leq rows (e .parent) y) ≡ true
     from-within y p =
         ⊎-elim
-        (λ (q : i ≡ y). or-left _ _ (eq-eqb y i (sym q)))
+        (λ (q : i ≡ y). or-left _ _ (eq-eqb i y q))
         (λ (d, f, q).
         let to : Within es (e .parent) y = subst (λ (z : Entity). Within es (z .parent) y) (same-some (nth es i) d e f at) q in
         ⊎-elim
-        (λ (h : e .parent < i). or-right (eqb y i) _ (s .done (e .parent) y h .1 to))
+        (λ (h : e .parent < i). or-right (eqb i y) _ (s .done (e .parent) y h .1 to))
         (λ (h : i ≤ e .parent).
         let low = rooted i e at in
         let le = within-le es rooted to in
-        or-left _ _ (eq-eqb y i (omega arith)))
+        or-left _ _ (eq-eqb i y (omega arith)))
         (cases-lt (e .parent) i))
         (within-split es p)
 
-    row-decides : (y : ℕ) → Decides (bit (bitOr (2 ^ i) (getD rows (e .parent) 0)) y) (Within es i y)
-    row-decides y =
-        decides-at _ _ (row-bit y) (λ t. to-within y (or-cases (eqb y i) _ t), from-within y)
+    row-decides : (y : ℕ) → Decides (bit row y) (Within es i y)
+    row-decides y = decides-at _ _ (own y) (λ t. to-within y (or-cases (eqb i y) _ t), from-within y)
 
-    pub fill-row : Filled es (set rows i (bitOr (2 ^ i) (getD rows (e .parent) 0))) (i + 1)
+    pub fill-row : Filled es (set rows i row) (i + 1)
     fill-row = record {
       done = λ k y h. ⊎-elim
-          (λ (q : k ≡ i). subst (λ (j : ℕ). Decides (leq (set rows i (bitOr (2 ^ i) (getD rows (e .parent) 0))) j y) (Within es j y)) (sym q)
-          (decides-at _ _ (ap (λ (r : ℕ). bit r y) (getD-set-same rows i _ 0 l)) (row-decides y)))
-          (λ ne. decides-at _ _ (ap (λ (r : ℕ). bit r y) (getD-set-other rows i k _ 0 ne)) (s .done k y (omega arith)))
+          (λ (q : k ≡ i). subst (λ (j : ℕ). Decides (leq (set rows i row) j y) (Within es j y)) (sym q)
+          (decides-at _ _ (ap (λ (r : ℕ). bit r y) (getD-set-same rows i row 0 l)) (row-decides y)))
+          (λ ne. decides-at _ _ (ap (λ (r : ℕ). bit r y) (getD-set-other rows i k row 0 ne)) (s .done k y (omega arith)))
           (cases-eq k i);
-      left = λ k h. getD-set-other rows i k _ 0 (omega arith) ∙ s .left k (omega arith);
+      left = λ k h. getD-set-other rows i k row 0 (omega arith) ∙ s .left k (omega arith);
     }
 
   -- all entities are done

@@ -5,6 +5,8 @@ mod roles;
 mod rows;
 mod spreads;
 mod tables;
+#[cfg(test)]
+mod tests;
 
 pub use orders::Order;
 pub use places::EntityOrder;

@@ -3,6 +3,7 @@ ghost use mathlib.Core.Path.{_≡_};
 ghost use Prim.Native.Nat.{ℕ};
 ghost use Rattle.std.specs.Orderings.{Decides};
 ghost use Rattle.access.specs.Bits.{bit};
+use crate::tables::has_bit;
 
 // An order on entity numbers: `below o x y` says that x is at or below y; `on o x` that x is one of its elements.
 pub trait Order {
@@ -24,7 +25,6 @@ pub trait Order {
     fn at_or_below(&self, x: usize, y: usize) -> bool
         ensures { λ r. ⌜ Decides r (below (now (self .entry)) x y) ⌝ }
     {
-        let above = self.above(x);
-        y < 128 && (above >> y) & 1 == 1
+        has_bit(self.above(x), y)
     }
 }

@@ -1,12 +1,16 @@
 // The order of the entities by their places, as a table.
 ghost use mathlib.Core.Path.{_≡_};
-ghost use mathlib.Core.Bool.{true};
+ghost use mathlib.Core.Bool.{true, _||_};
 ghost use Prim.Native.Nat.{ℕ, _<_, _≤_};
+ghost use lib.Dec.{eqb};
 ghost use lib.ListN.{length, getD};
 ghost use Rattle.std.specs.Orderings.{Decides};
+ghost use Rattle.access.specs.Bits.{bit};
 ghost use Rattle.access.specs.Orders.{Within, Rooted};
 ghost use Rattle.order.specs.Rows.{leq, Transitive, Antisymmetric};
 use crate::orders::Order;
+use crate::tables::bit_of;
+use crate::tables::both;
 use crate::tables::row_at;
 use access::Entity;
 
@@ -20,7 +24,15 @@ pub struct EntityOrder {
     ghost antisymmetric: { Antisymmetric rows },
 }
 
-// Gives each entity its row, with the entity itself and the row of its parent.
+// The row of x: x itself, and the row of its parent.
+fn place_row(rows: &[u128], x: usize, parent: usize) -> u128
+    requires { ⌜ x < 128 ⌝ }
+    ensures { λ r. ⌜ ((y : ℕ) → bit r y ≡ (eqb x y || leq (now (rows .entry)) parent y)) ⌝ }
+{
+    both(bit_of(x), row_at(rows, parent))
+}
+
+// Gives each entity its row.
 fn fill_rows(rows: &mut [u128], entities: &[Entity])
     requires few { ⌜ length (now entities) ≤ 96 ⌝ }
     requires rooted { ⌜ Rooted (now entities) ⌝ }
@@ -29,7 +41,7 @@ fn fill_rows(rows: &mut [u128], entities: &[Entity])
     ensures { λ _. ⌜ ((x y : ℕ) → Decides (leq (now (rows .exit)) x y) (Within (now (entities .entry)) x y)) ⌝ }
 {
     for (x, entity) in entities.iter().enumerate() {
-        rows[x] = (1 << x) | rows[entity.parent as usize];
+        rows[x] = place_row(rows, x, entity.parent as usize);
     }
 }
 

@@ -1,21 +1,25 @@
 // The order of the roles, as a table.
 ghost use mathlib.Core.Path.{_≡_};
-ghost use mathlib.Core.Bool.{true, false};
+ghost use mathlib.Core.Bool.{true, _||_};
 ghost use Prim.Native.Nat.{ℕ, _<_, _≤_};
+ghost use lib.Dec.{eqb};
 ghost use lib.ListN.{length, getD};
 ghost use Rattle.std.specs.Orderings.{Decides};
 ghost use Rattle.access.specs.Bits.{bit};
-ghost use Rattle.access.specs.Lists.{fits, isRole};
+ghost use Rattle.access.specs.Lists.{fits, isRole, sysadmin};
 ghost use Rattle.access.specs.Orders.{RoleBelow, Linked, joinedBy, unlinked, roleBelow};
-ghost use Rattle.order.specs.Rows.{leq, joined, EndsBelow, Transitive, Antisymmetric};
+ghost use Rattle.order.specs.Rows.{leq, Transitive, Antisymmetric};
 use crate::orders::Order;
+use crate::tables::bit_of;
+use crate::tables::both;
+use crate::tables::join;
 use crate::tables::row_at;
 use access::Entity;
 use access::Kind;
 use access::Link;
 
-// The bit of sysadmin, entity 2.
-const SYSADMIN: u128 = 4;
+// The entity that is the role sysadmin.
+const SYSADMIN: usize = 2;
 
 // Bit x of `roles` says that x is a role, and bit y of row x that role x is at or below role y.
 #[derive(Clone, Copy)]
@@ -27,6 +31,7 @@ pub struct RoleOrder {
     ghost antisymmetric: { Antisymmetric rows },
 }
 
+// Whether entities of the kind are roles.
 fn is_role(kind: Kind) -> bool
     ensures { λ r. ⌜ r ≡ isRole kind ⌝ }
 {
@@ -36,7 +41,15 @@ fn is_role(kind: Kind) -> bool
     }
 }
 
-// Gives each role its row, with the role itself and sysadmin; the result has the roles as bits.
+// The row of a role with no links: the role itself and sysadmin.
+fn start_row(x: usize) -> u128
+    requires { ⌜ x < 128 ⌝ }
+    ensures { λ r. ⌜ ((y : ℕ) → bit r y ≡ (eqb x y || eqb sysadmin y)) ⌝ }
+{
+    both(bit_of(x), bit_of(SYSADMIN))
+}
+
+// Gives each role its row; the result has the roles as bits.
 fn start_rows(rows: &mut [u128], entities: &[Entity]) -> u128
     requires few { ⌜ length (now entities) ≤ 96 ⌝ }
     requires room { ⌜ length (now rows) ≡ 96 ⌝ }
@@ -47,34 +60,19 @@ fn start_rows(rows: &mut [u128], entities: &[Entity]) -> u128
     let mut roles = 0;
     for (x, entity) in entities.iter().enumerate() {
         if is_role(entity.kind) {
-            roles |= 1 << x;
-            rows[x] = (1 << x) | SYSADMIN;
+            roles = both(roles, bit_of(x));
+            rows[x] = start_row(x);
         }
     }
     roles
 }
 
-// Adds `more` to each row that has the bit `lower`.
-fn join_rows(rows: &mut [u128], lower: usize, more: u128)
-    requires { ⌜ lower < 128 ⌝ }
-    ensures { λ _. ⌜ ((x : ℕ) → getD (now (rows .exit)) x 0 ≡ joined lower more (getD (now (rows .entry)) x 0)) ⌝ }
-{
-    for row in rows.iter_mut() {
-        if (*row >> lower) & 1 == 1 {
-            *row |= more;
-        }
-    }
-}
-
-// Puts in one link after the other: each row with the lower role gets the row of the upper one.
+// Puts in one link after the other.
 fn join_links(rows: &mut [u128], links: &[Link])
-    requires room { ⌜ length (now rows) ≡ 96 ⌝ }
-    requires ends { ⌜ EndsBelow 96 (now links) ⌝ }
     ensures { λ _. ⌜ ((x y : ℕ) → leq (now (rows .exit)) x y ≡ joinedBy (leq (now (rows .entry))) (now (links .entry)) x y) ⌝ }
 {
     for link in links {
-        let more = rows[link.upper as usize];
-        join_rows(rows, link.lower as usize, more);
+        join(rows, link.lower as usize, link.upper as usize);
     }
 }
 

@@ -13,23 +13,35 @@ pub struct Row {
     sets: [RightSet; 96],
 }
 
+// The set at x, which is empty past the end.
+fn set_at(sets: &[RightSet], x: usize) -> RightSet
+    ensures { λ r. ⌜ ((k : ℕ) → bit (r .bits) k ≡ told (now (sets .entry)) x k) ⌝ }
+{
+    match sets.get(x) {
+        Some(set) => *set,
+        None => RightSet::empty(),
+    }
+}
+
 impl Row {
+    // The same set at each entity.
+    fn filled(set: RightSet) -> Self
+        ensures { λ r. ⌜ ((x k : ℕ) → told (r .sets) x k ≡ (ltb x 96 && bit (set .bits) k)) ⌝ }
+    {
+        Row { sets: [set; 96] }
+    }
+
     pub fn empty() -> Self
         ensures { λ r. ⌜ ((x k : ℕ) → told (r .sets) x k ≡ false) ⌝ }
     {
-        Row {
-            sets: [RightSet::empty(); 96],
-        }
+        Self::filled(RightSet::empty())
     }
 
     // The set at x, which is empty past the end.
     pub fn at(&self, x: usize) -> RightSet
         ensures { λ r. ⌜ ((k : ℕ) → bit (r .bits) k ≡ told (now (self .entry) .sets) x k) ⌝ }
     {
-        match self.sets.get(x) {
-            Some(set) => *set,
-            None => RightSet::empty(),
-        }
+        set_at(&self.sets, x)
     }
 
     // Adds the rights of `more` at x; past the end nothing changes.

@@ -1,6 +1,6 @@
 // What rights are carried along an order.
 ghost use mathlib.Core.Path.{_≡_};
-ghost use mathlib.Core.Bool.{true, false};
+ghost use mathlib.Core.Bool.{false};
 ghost use Prim.Native.Nat.{ℕ, _<_, _≤_};
 ghost use Rattle.std.specs.Orderings.{Decides};
 ghost use Rattle.access.specs.Bits.{bit};
@@ -8,15 +8,17 @@ ghost use Rattle.access.specs.Sets.{told};
 ghost use Rattle.order.specs.Spreads.{Carried};
 use crate::orders::Order;
 use crate::rows::Row;
+use crate::tables::has_bit;
 use access::RightSet;
 
-// The rights of `base` at the places whose bits stand in `above`.
-fn gather(above: u128, base: &Row) -> RightSet
-    ensures { λ r. ⌜ ((k : ℕ) → Decides (bit (r .bits) k) (Carried (λ _ y. bit above y ≡ true) (told (now (base .entry) .sets)) 96 0 k)) ⌝ }
+// The rights that `base` has at x and at the places above it.
+fn gather<O: Order>(order: &O, base: &Row, x: usize) -> RightSet
+    ensures { λ r. ⌜ ((k : ℕ) → Decides (bit (r .bits) k) (Carried (below (now (order .entry))) (told (now (base .entry) .sets)) 96 x k)) ⌝ }
 {
+    let above = order.above(x);
     let mut all = RightSet::empty();
     for y in 0..96 {
-        if (above >> y) & 1 == 1 {
+        if has_bit(above, y) {
             all = all.union(base.at(y));
         }
     }
@@ -30,7 +32,7 @@ pub fn spread<O: Order>(order: &O, base: &Row) -> Row
 {
     let mut row = Row::empty();
     for x in 0..96 {
-        row.add(x, gather(order.above(x), base));
+        row.add(x, gather(order, base, x));
     }
     row
 }

@@ -1,12 +1,11 @@
 use mathlib.Core.Path.{_≡_, sym, ap, subst, _∙_}
-use mathlib.Core.Bool.{true, false}
+use mathlib.Core.Bool.{_||_}
 use mathlib.Core.List.{List}
-use Prim.Native.Nat.{ℕ, _+_, _<_, _^_}
+use Prim.Native.Nat.{ℕ, _+_, _<_}
 use native.Mathlib.Omega.{arith}
-use lib.Bits.{bitOr}
-use lib.ListN.{length, set}
-use Rattle.std.proofs.shelf.Bits.{one-shl}
+use lib.ListN.{length}
 use Rattle.std.proofs.shelf.Maps.{nth-getD}
+use Rattle.access.specs.Bits.{bit}
 use Rattle.access.specs.Lists.{fits, isRole, passes}
 use Rattle.access.proofs.SetLaws.{bit-zero}
 use Rattle.order.proofs.StartLaws.{Started, start-role, start-other, started-roles, started-rows}
@@ -28,10 +27,10 @@ loop-x-again c =
     elim (c .if-is-role .came) [
       | then-is-role w ↦
           let l : x < length rows = omega arith in
-          let one = one-shl x 128 (omega arith) in
-          subst (λ (r : ℕ). Started es r (c .if-is-role .rows) (x + 1)) (sym (w .roles-is ∙ ap (bitOr roles) one))
-          (subst (λ (t : List ℕ). Started es (bitOr roles (2 ^ x)) t (x + 1)) (sym (w .rows-is ∙ ap (λ (b : ℕ). set rows x (bitOr b 4)) one))
-          (start-role es roles rows x (c .loop-x .inv) l (kind ∙ w .if-is-role .taken)))
+          subst (λ (r : ℕ). Started es r (c .if-is-role .rows) (x + 1)) (sym (w .roles-is))
+          (subst (λ (t : List ℕ). Started es (w .both-roles .result) t (x + 1)) (sym (w .rows-is))
+          (start-role es roles rows x (c .loop-x .inv) _ _ l (kind ∙ w .if-is-role .taken)
+          (λ k. w .both-roles .ensures k ∙ ap (λ b. bit roles k || b) (w .bit-of .ensures k)) (w .start-row .ensures)))
       | else-is-role w ↦
           subst (λ (r : ℕ). Started es r (c .if-is-role .rows) (x + 1)) (sym (w .roles-is))
           (subst (λ (t : List ℕ). Started es roles t (x + 1)) (sym (w .rows-is))

@@ -1,5 +1,3 @@
-use mathlib.Core.Path.{_≡_}
-use mathlib.Core.Bool.{true}
 use Prim.Native.Nat.{ℕ}
 use Rattle.std.specs.Orderings.{Decides}
 use Rattle.access.specs.Bits.{bit}
@@ -8,4 +6,4 @@ use Rattle.order.specs.Spreads.{Carried}
 use Rattle.order.proofs.spreads.gather.Given as given
 
 abbrev pub Inv-loop-y : given.InvT-loop-y
-Inv-loop-y l = (k : ℕ) → Decides (bit (l .all .bits) k) (Carried (λ _ y. bit (l .above) y ≡ true) (told (l .base .sets)) (l .y) 0 k)
+Inv-loop-y g l = (k : ℕ) → Decides (bit (l .all .bits) k) (Carried (g .O·Order .below (l .order)) (told (l .base .sets)) (l .y) (l .x) k)

@@ -1,4 +1,5 @@
 use mathlib.Core.Path.{refl}
+use native.Mathlib.Omega.{arith}
 use Rattle.access.specs.Orders.{Within}
 use Rattle.order.proofs.RowLaws.{clear-rows, rows-transitive, rows-antisymmetric}
 use Rattle.order.proofs.TreeLaws.{stands-below, within-through, within-antisymmetric}
@@ -12,7 +13,7 @@ ghost-result c =
     let es = c .args .entities .now in
     let rows = c .fill-rows .last .rows in
     let exact = c .fill-rows .ensures in (
-      λ x h. exact x x .1 (Within.itself (stands-below es x h)),
+      λ x h. exact x x .1 (Within.itself (stands-below es x (omega arith))),
       (
         rows-transitive rows (Within es) exact (λ x y z p q. within-through es p q),
         (rows-antisymmetric rows (Within es) exact (within-antisymmetric es (c .pre .rooted)), tt),

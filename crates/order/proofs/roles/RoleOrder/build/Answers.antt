@@ -1,17 +1,11 @@
 use mathlib.Core.Path.{refl, sym, _∙_}
 use Rattle.access.specs.Orders.{RoleBelow}
-use Rattle.order.proofs.RoleLaws.{linked-roles, role-antisymmetric}
-use Rattle.order.proofs.RowLaws.{clear-rows, ends-below, role-table, role-exact, rows-transitive, rows-antisymmetric}
+use Rattle.order.proofs.RoleLaws.{role-antisymmetric}
+use Rattle.order.proofs.RowLaws.{clear-rows, role-table, role-exact, rows-transitive, rows-antisymmetric}
 use Rattle.order.proofs.roles.RoleOrder.build.Needs as need
 
 pub start-rows-roles-requires : need.start-rows-roles-requires
 start-rows-roles-requires c κs = record { few = c .pre .few; room = refl; clear = λ x. clear-rows 96 x }
-
-pub join-links-requires : need.join-links-requires
-join-links-requires c κs =
-    let es = c .args .entities .now in
-    let links = c .args .links .now in
-    record { room = c .start-rows-roles .kept .rows; ends = ends-below es links 96 (c .pre .few) (linked-roles es links (c .pre .linked)) }
 
 pub ghost-result : need.ghost-result
 ghost-result c =

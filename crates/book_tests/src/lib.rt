@@ -1,0 +1,5 @@
+// Examples for each refusal of the building calls, and for what they return.
+#[cfg(test)]
+mod cases;
+#[cfg(test)]
+mod tests;
