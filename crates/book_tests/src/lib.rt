@@ -2,4 +2,6 @@
 #[cfg(test)]
 mod cases;
 #[cfg(test)]
+mod limits;
+#[cfg(test)]
 mod tests;
