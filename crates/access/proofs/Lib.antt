@@ -1,3 +1,4 @@
 pub mod BitLaws
 pub mod SetLaws
 pub mod Turns
+pub mod NumberLaws

@@ -1,0 +1,8 @@
+// The steps of a database session, and the laws of the runs that they make.
+mod laws;
+mod steps;
+
+pub use laws::laboratory_stands;
+pub use laws::laws_stand;
+pub use steps::Entry;
+pub use steps::Step;

@@ -1,0 +1,4 @@
+pub mod Copying
+pub mod Marking
+pub mod Roles
+pub mod Rowing
