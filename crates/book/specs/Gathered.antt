@@ -1,10 +1,11 @@
 -- What any list of building calls comes to, from the calls' arguments alone.
-use mathlib.Core.List.{List, [], _∷_}
+use mathlib.Core.List.{List}
 use Prim.Native.Nat.{ℕ}
+use Rattle.std.specs.shelf.Lists.{folded}
 use Rattle.std.specs.declared.result.Result.{Result}
 use Rattle.std.specs.declared.result.Result.the-variants.{Ok, Err}
 use Rattle.access.specs.Codes.{Code, code}
-use Rattle.access.specs.Lists.{Lists}
+use Rattle.access.specs.Lists.{Lists, newLists}
 use Rattle.catalogue.specs.Calls.{Outcome, declared, linked, granted, joined, lined}
 use Rattle.book.specs.declared.calls.Call.{Call}
 use Rattle.book.specs.declared.calls.Call.the-variants as call
@@ -19,15 +20,9 @@ called l (call.Grant p e a o) = granted l p e a o
 called l (call.Join a r) = joined l a r
 called l (call.Line x r y) = lined l x r y
 
--- the lists after all the calls, each on what those before it left
-abbrev pub listsAfter : Lists → List Call → Lists
-listsAfter l [] = l
-listsAfter l (c ∷ cs) = listsAfter (called l c .lists) cs
-
--- what each call returns
-abbrev pub answersTo : Lists → List Call → List (Result ℕ Code)
-answersTo l [] = []
-answersTo l (c ∷ cs) = called l c .answer ∷ answersTo (called l c .lists) cs
+-- the lists of a new book after all the calls, each on what those before it left
+abbrev pub listsAfter : List Call → Lists
+listsAfter calls = folded (λ l c. called l c .lists) newLists calls
 
 -- what an answer says
 abbrev pub said : Answer → Result ℕ Code

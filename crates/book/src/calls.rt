@@ -1,18 +1,10 @@
 // Building calls as values, and what any list of them comes to.
 ghost use mathlib.Core.Path.{_≡_};
-ghost use mathlib.Core.Bool.{cond};
-ghost use mathlib.Core.List.{map};
-ghost use Prim.Native.Nat.{_<_, _≤_};
-ghost use lib.Dec.{ltb};
-ghost use lib.ListN.{length, take, drop};
-ghost use Rattle.std.specs.declared.result.Result.the-variants.{Ok, Err};
-ghost use Rattle.access.specs.Codes.{code, coded};
-ghost use Rattle.access.specs.Lists.{newLists};
-ghost use Rattle.access.specs.declared.refusals.Refusal.the-variants.{NoRoom};
-ghost use Rattle.catalogue.specs.Sound.{Sound};
+ghost use Rattle.access.specs.Codes.{coded};
 ghost use Rattle.book.specs.Meaning.{listsOf};
-ghost use Rattle.book.specs.Gathered.{called as outcome, listsAfter, answersTo, said};
+ghost use Rattle.book.specs.Gathered.{called as outcome, listsAfter, said};
 use crate::books::Book;
+use crate::fills::Gathers;
 use access::ObjectNumbers;
 use access::Refusal;
 
@@ -52,12 +44,25 @@ pub enum Answer {
     Declined(Refusal),
 }
 
-fn answered(r: Result<usize, Refusal>) -> Answer
-    ensures { λ a. ⌜ said a ≡ coded r ⌝ }
-{
-    match r {
-        Ok(n) => Answer::Number(n),
-        Err(refusal) => Answer::Declined(refusal),
+impl Answer {
+    // What a building call returned, as a value.
+    pub fn of(r: Result<usize, Refusal>) -> Answer
+        ensures { λ a. ⌜ said a ≡ coded r ⌝ }
+    {
+        match r {
+            Ok(n) => Answer::Number(n),
+            Err(refusal) => Answer::Declined(refusal),
+        }
+    }
+
+    // The value as what a building call returned.
+    pub fn result(self) -> Result<usize, Refusal>
+        ensures { λ r. ⌜ coded r ≡ said self ⌝ }
+    {
+        match self {
+            Answer::Number(n) => Ok(n),
+            Answer::Declined(refusal) => Err(refusal),
+        }
     }
 }
 
@@ -66,7 +71,7 @@ pub fn apply(book: &mut Book, call: Call) -> Answer
     ensures answer { λ r. ⌜ said r ≡ outcome (listsOf (now (book .entry))) call .answer ⌝ }
     ensures lists { λ _. ⌜ listsOf (now (book .exit)) ≡ outcome (listsOf (now (book .entry))) call .lists ⌝ }
 {
-    answered(
+    Answer::of(
         match call {
             Call::Declare {
                 kind,
@@ -91,23 +96,21 @@ pub fn apply(book: &mut Book, call: Call) -> Answer
     )
 }
 
-// Makes the book new again and makes each call on it in turn; the answers go into the room that is lent for them.
-pub fn fill(book: &mut Book, calls: &[Call], answers: &mut [Answer]) -> Result<usize, Refusal>
-    ensures count { λ r. ⌜ coded r ≡ cond (ltb (length (now (answers .entry))) (length (now (calls .entry)))) (Err (code NoRoom)) (Ok (length (now (calls .entry)))) ⌝ }
-    ensures refused { λ _. ⌜ (length (now (answers .entry)) < length (now (calls .entry)) → (listsOf (now (book .exit)) ≡ listsOf (now (book .entry))) × (now (answers .exit) ≡ now (answers .entry))) ⌝ }
-    ensures lists { λ _. ⌜ (length (now (calls .entry)) ≤ length (now (answers .entry)) → listsOf (now (book .exit)) ≡ listsAfter newLists (now (calls .entry))) ⌝ }
-    ensures answers { λ _. ⌜ (length (now (calls .entry)) ≤ length (now (answers .entry)) → map said (take (length (now (calls .entry))) (now (answers .exit))) ≡ answersTo newLists (now (calls .entry))) ⌝ }
-    ensures rest { λ _. ⌜ drop (length (now (calls .entry))) (now (answers .exit)) ≡ drop (length (now (calls .entry))) (now (answers .entry)) ⌝ }
-    ensures sound { λ _. ⌜ Sound (listsOf (now (book .exit))) ⌝ }
-{
-    if answers.len() < calls.len() {
-        book.sound();
-        return Err(Refusal::NoRoom);
+// A book gathers building calls.
+pub impl Gathers for Book as BookGathers {
+    type Call = Call;
+
+    type Answer = Answer;
+
+    ghost holds = { λ book calls. listsOf book ≡ listsAfter calls };
+
+    ghost returns = { λ before call answer. said answer ≡ outcome (listsAfter before) call .answer };
+
+    fn renew(&mut self) {
+        self.clear();
     }
-    book.clear();
-    for (i, call) in calls.iter().enumerate() {
-        answers[i] = apply(book, *call);
+
+    fn perform(&mut self, call: Call) -> Answer {
+        apply(self, call)
     }
-    book.sound();
-    Ok(calls.len())
 }

@@ -10,6 +10,7 @@ use access::Refusal;
 use book::Answer;
 use book::Book;
 use book::BookCatalogue;
+use book::BookGathers;
 use book::Call;
 use book::fill;
 use catalogue::Catalogue;

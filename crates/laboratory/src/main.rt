@@ -1,13 +1,21 @@
-// Fills a book with the laboratory example and with calls that are declined, and prints what happened.
+// Fills a layer over a book with the laboratory example, with proposals and with calls that are declined, and prints what
+// happened.
 use access::ObjectNumbers;
-use book::Answer;
-use book::AnswerText;
+use access::RefusalText;
 use book::Book;
 use book::BookCatalogue;
 use book::Call;
-use book::CallText;
 use book::fill;
+use layer::Change;
+use layer::ChangeText;
+use layer::Layer;
+use layer::LayerCatalogue;
+use layer::LayerGathers;
+use layer::Response;
+use layer::ResponseText;
 use report::print_catalogue;
+use std::alloc::AllocError;
+use std::alloc::Global;
 use std::error::AnyError;
 
 const PROCEDURE_7: ObjectNumbers = ObjectNumbers {
@@ -113,34 +121,75 @@ const FIRST_ACCOUNT: u8 = 9;
 
 const LAST_ACCOUNT: u8 = 22;
 
-fn print_answers(rt: &LibcRuntime, calls: &[Call], answers: &[Answer]) -> Result<(), AnyError> {
-    for (call, answer) in calls.iter().zip(answers.iter()) {
-        println!(rt, "{call} -> {answer}")?;
+// Two proposals above the book, one of which is taken back.
+const PROPOSALS: [Change; 5] = [
+    Change::ProposeRight {
+        principal: 8,
+        entity: 7,
+        right: 5,
+        option: 0,
+    },
+    Change::ProposeMember {
+        account: 4,
+        role: 2,
+    },
+    Change::ProposeMember {
+        account: 5,
+        role: 2,
+    },
+    Change::ProposeRight {
+        principal: 4,
+        entity: 9,
+        right: 9,
+        option: 0,
+    },
+    Change::Withdraw,
+];
+
+fn print_responses(
+    rt: &LibcRuntime,
+    changes: &[Change],
+    responses: &[Response],
+) -> Result<(), AnyError> {
+    for (change, response) in changes.iter().zip(responses.iter()) {
+        println!(rt, "{change} -> {response}")?;
     }
     Ok(())
 }
 
-fn run(rt: &LibcRuntime) -> Result<(), AnyError> {
-    let heap = rt.alloc();
-    let mut calls = Vec::new(heap);
-    calls.extend_from_slice(&EXAMPLE)?;
-    calls.extend_from_slice(&MORE)?;
+fn gather(heap: Global) -> Result<Vec<Change>, AllocError> {
+    let mut changes = Vec::new(heap);
+    for call in EXAMPLE.iter().chain(MORE.iter()) {
+        changes.push(Change::Build(*call))?;
+    }
     for account in FIRST_ACCOUNT..=LAST_ACCOUNT {
-        calls.push(Call::Declare {
+        changes.push(Change::Build(Call::Declare {
             kind: 3,
             parent: 0,
             owner: account,
             mode: 0,
-        })?;
+        }))?;
     }
-    let mut answers = vec![in heap; Answer::Number(0); calls.len()]?;
-    let mut book = Book::new(heap)?;
-    match fill(&mut book, calls.as_slice(), &mut answers) {
-        Ok(_) => print_answers(rt, calls.as_slice(), answers.as_slice())?,
-        Err(_) => println!(rt, "no room for the answers")?,
+    changes.extend_from_slice(&PROPOSALS)?;
+    Ok(changes)
+}
+
+fn run(rt: &LibcRuntime) -> Result<(), AnyError> {
+    let heap = rt.alloc();
+    let changes = gather(heap)?;
+    let mut responses = vec![in heap; Response::Withdrawn(false); changes.len()]?;
+    let mut layer = Layer::new(heap, Book::new(heap)?)?;
+    match fill(&mut layer, changes.as_slice(), &mut responses) {
+        Ok(_) => {
+            print_responses(rt, changes.as_slice(), responses.as_slice())?;
+            println!(rt, "\nthe layer over the book holds")?;
+            print_catalogue(rt, &layer)
+        }
+        Err(refusal) => {
+            println!(rt, "declined: {refusal}")?;
+            Ok(())
+        }
     }
-    book.sound();
-    print_catalogue(rt, &book)
 }
 
 fn main(rt: LibcRuntime) -> Result<(), AnyError> {

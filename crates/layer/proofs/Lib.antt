@@ -1,0 +1,4 @@
+pub mod Picks
+pub mod Over
+pub mod Stays
+pub mod Passing

@@ -1,0 +1,3 @@
+pub mod Proposals
+pub mod Stands
+pub mod Changes
