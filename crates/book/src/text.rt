@@ -1,31 +1,17 @@
 // Calls and answers as text for people; a number that is not listed is shown as it is.
 use crate::calls::Answer;
 use crate::calls::Call;
-use access::Kind;
-use access::KindText;
+use access::KindNumber;
+use access::KindNumberText;
 use access::Object;
 use access::ObjectNumbers;
 use access::ObjectText;
 use access::RefusalText;
-use access::Right;
-use access::RightText;
+use access::RightNumber;
+use access::RightNumberText;
 use access::Runner;
 use access::RunnerText;
 use std::fmt;
-
-fn show_kind<W: fmt::Write>(f: &mut fmt::Formatter<W>, n: u8) -> fmt::Result {
-    match Kind::listed(n) {
-        Some(kind) => write!(f, "{kind}"),
-        None => write!(f, "kind {n}"),
-    }
-}
-
-fn show_right<W: fmt::Write>(f: &mut fmt::Formatter<W>, n: u8) -> fmt::Result {
-    match Right::listed(n) {
-        Some(right) => write!(f, "{right}"),
-        None => write!(f, "right {n}"),
-    }
-}
 
 fn show_object<W: fmt::Write>(f: &mut fmt::Formatter<W>, n: ObjectNumbers) -> fmt::Result {
     match Object::listed(n) {
@@ -61,9 +47,8 @@ pub impl fmt::Display for Call as CallText {
                 owner,
                 mode,
             } => {
-                f.write_str("declare ")?;
-                show_kind(f, *kind)?;
-                write!(f, " in {parent}, owner {owner}, mode {mode}")
+                let kind = KindNumber(*kind);
+                write!(f, "declare {kind} in {parent}, owner {owner}, mode {mode}")
             }
             Call::Link { lower, upper } => write!(f, "link role {lower} below role {upper}"),
             Call::Grant {
@@ -72,9 +57,11 @@ pub impl fmt::Display for Call as CallText {
                 right,
                 option,
             } => {
-                f.write_str("grant ")?;
-                show_right(f, *right)?;
-                write!(f, " on {entity} to {principal}, option {option}")
+                let right = RightNumber(*right);
+                write!(
+                    f,
+                    "grant {right} on {entity} to {principal}, option {option}"
+                )
             }
             Call::Join { account, role } => write!(f, "join account {account} to role {role}"),
             Call::Line {

@@ -1,18 +1,11 @@
 // Changes and responses as text for people.
 use crate::changes::Change;
 use crate::changes::Response;
-use access::Right;
-use access::RightText;
+use access::RightNumber;
+use access::RightNumberText;
 use book::AnswerText;
 use book::CallText;
 use std::fmt;
-
-fn show_right<W: fmt::Write>(f: &mut fmt::Formatter<W>, n: u8) -> fmt::Result {
-    match Right::listed(n) {
-        Some(right) => write!(f, "{right}"),
-        None => write!(f, "right {n}"),
-    }
-}
 
 pub impl fmt::Display for Change as ChangeText {
     fn fmt<W: fmt::Write>(&self, f: &mut fmt::Formatter<W>) -> fmt::Result {
@@ -24,9 +17,11 @@ pub impl fmt::Display for Change as ChangeText {
                 right,
                 option,
             } => {
-                f.write_str("propose ")?;
-                show_right(f, *right)?;
-                write!(f, " on {entity} to {principal}, option {option}")
+                let right = RightNumber(*right);
+                write!(
+                    f,
+                    "propose {right} on {entity} to {principal}, option {option}"
+                )
             }
             Change::ProposeMember { account, role } => write!(
                 f,
