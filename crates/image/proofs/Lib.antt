@@ -1,0 +1,12 @@
+pub mod Writing
+pub mod Counting
+pub mod CodeLaws
+pub mod Pushing
+pub mod Calling
+pub mod Feeding
+pub mod Entries
+pub mod ReadBack
+pub mod WriteRead
+pub mod Stepping
+pub mod Causing
+pub mod Looking

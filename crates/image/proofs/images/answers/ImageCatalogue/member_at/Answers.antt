@@ -1,0 +1,23 @@
+use mathlib.Core.Path.{sym, refl, ap, _∙_}
+use native.Mathlib.Omega.{arith}
+use lib.ListN.{length}
+use Rattle.std.specs.declared.option.Option.the-variants.{Some}
+use Rattle.std.proofs.shelf.Maps.{nth-past}
+use Rattle.image.specs.Bytes.{memberBytes}
+use Rattle.image.specs.Decoding.{memberOf}
+use Rattle.image.specs.Readers.{imageLists}
+use Rattle.image.proofs.Looking.{record-wide, record-is}
+use Rattle.image.proofs.images.answers.ImageCatalogue.member_at.Needs as need
+
+pub returns-then-n-count-of : need.returns-then-n-count-of
+returns-then-n-count-of c = sym (nth-past (imageLists (c .args .self .now) .members) (c .args .n) (omega (arith, c .count-of .ensures, c .if-n-count-of .taken)))
+
+pub member-of-requires : need.member-of-requires
+member-of-requires c κs =
+    ap length (c .record-at .ensures)
+    ∙ record-wide memberBytes (imageLists (c .args .self .now) .members) (c .args .n) (omega (arith, c .count-of .ensures, c .if-n-count-of .left)) 2 (λ x. refl)
+
+pub returns : need.returns
+returns c =
+    ap Some (c .member-of .ensures ∙ ap memberOf (c .record-at .ensures))
+    ∙ record-is memberBytes (imageLists (c .args .self .now) .members) (c .args .n) (omega (arith, c .count-of .ensures, c .if-n-count-of .left)) memberOf (λ x _. refl)
