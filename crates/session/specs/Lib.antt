@@ -1,3 +1,4 @@
 pub mod Models
 pub mod Marks
 pub mod Rowed
+pub mod Reached

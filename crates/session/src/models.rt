@@ -11,6 +11,7 @@ use order::RoleOrder;
 
 pub mod holding;
 pub mod loading;
+pub mod reading;
 
 // There is room for every list that a sound catalogue can have.
 #[derive(Drop)]

@@ -1,5 +1,6 @@
 // What a question about sessions works in.
 use crate::models::Model;
+use crate::states::RunState;
 use std::alloc::AllocError;
 use std::alloc::Global;
 
@@ -7,11 +8,13 @@ use std::alloc::Global;
 #[derive(Drop)]
 pub struct Workspace {
     pub model: Model,
+    pub state: RunState,
 }
 
 impl Workspace {
     pub fn new(heap: Global) -> Result<Workspace, AllocError> {
         let model = Model::new(heap)?;
-        Ok(Workspace { model })
+        let state = RunState::new(heap)?;
+        Ok(Workspace { model, state })
     }
 }

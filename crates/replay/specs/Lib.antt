@@ -1,0 +1,4 @@
+pub mod Fits
+pub mod Good
+pub mod Replays
+pub mod Laws
