@@ -82,8 +82,8 @@ def turned(body, table):
     """The body with its tokens respelled, but for labels of a goal's facts (after `c.` or `w.`)."""
 
     def one(m):
-        before = body[max(0, m.start() - 2) : m.start()]
-        if re.fullmatch(r"[cwlp]\.", before):
+        before = body[max(0, m.start() - 3) : m.start()]
+        if re.search(r"(?:^|[^\w])[cwlp]\.$", before):
             return m.group(0)
         return table.get(m.group(0), m.group(0))
 

@@ -1,5 +1,5 @@
 -- Laws of `bit`. Assumes nothing.
-use Rattle.std.proofs.Common.{◌≡◌, ℕ, zero, suc, ◌+◌, ◌-◌, ◌*◌, ◌/◌, ◌%◌, ◌^◌, ◌<◌, ◌≤◌, Bool, true, false, ◌||◌, eqb, ◌⊎◌, sym, refl, ap, ◌∙◌, inl, inr, ⊎_elim, arith}
+use Rattle.std.proofs.Common.{◌≡◌, ℕ, zero, suc, ◌+◌, ◌-◌, ◌/◌, ◌%◌, ◌^◌, ◌<◌, ◌||◌, eqb, ◌⊎◌, sym, ap, ◌∙◌, inl, inr, ⊎_elim, arith}
 use native.Mathlib.Nat.{two-pow-succ, div-eq_of_lt}
 use lib.Bits.{bit_or}
 use Rattle.std.proofs.lemmas.Nat.{or_shr, or_mod, shr-shr, shl-shr, pow-add, pow_below}

@@ -1,4 +1,6 @@
 // The words of the access model: entities, rights, code, refusals, and sets of rights.
+#![tactic(auto)]
+
 mod bits;
 mod code;
 mod entities;

@@ -1,4 +1,6 @@
 // A book: the catalogue that building calls fill.
+#![tactic(auto)]
+
 mod books;
 mod calls;
 mod fills;

@@ -1,21 +1,20 @@
 -- What holds of entities that were declared one after another.
-use Rattle.std.proofs.Common.{◌≡◌, ℕ, zero, suc, ◌+◌, ◌-◌, ◌<◌, ◌≤◌, Bool, true, false, cond, not, ◌&&◌, ◌||◌, eqb, ltb, ◌⊎◌, List, [], ◌∷◌, ◌++◌, length, take, drop, is_some, is_ok, Some, None, Ok, Err, Option, Result, sym, refl, ap, ◌∙◌, subst, inl, inr, ⊎_elim, arith, lit≤}
-use Rattle.std.specs.List.{slice_get}
+use Rattle.std.proofs.Common.{◌≡◌, ℕ, ◌+◌, ◌<◌, ◌≤◌, true, cond, eqb, List, [], ◌∷◌, ◌++◌, length, drop, is_ok, Some, Ok, Err, Result, sym, refl, ap, ◌∙◌, subst, inl, inr, arith, lit≤}
 use Rattle.std.proofs.lemmas.List.{take-append-drop, take-append-le, drop-append-le, length_push, length-take}
 use Rattle.std.proofs.lemmas.List.Sums.{sum_by_push, sum_by-cons}
-use Rattle.std.proofs.lemmas.Bool.{ltb-true, eqb-true, not-false, and_parts, or_cases, false≢true, cases_Bool}
+use Rattle.std.proofs.lemmas.Bool.{ltb-true, eqb-true, not-false, and_parts, false≢true, cases_Bool}
 use Rattle.access.specs.declared.entities.Kind.{Kind}
 use Rattle.access.specs.declared.entities.Kind.TheVariants.{Container, Table, Procedure, Account, Role}
 use Rattle.access.specs.declared.entities.Entity.{Entity}
 use Rattle.access.specs.Codes.{Code}
 use Rattle.access.specs.Numbers.{kind_at, kind_number}
-use Rattle.access.specs.Lists.{new_entities, stands, fits, is_container, is_role, sysadmin}
-use Rattle.access.specs.Orders.{InTurn, Rooted}
-use Rattle.catalogue.specs.Judgements.{judged, judged_kind, entity_reasons, entity_named, of_kind, count_kind, limit_of, given}
+use Rattle.access.specs.Lists.{new_entities, fits, is_container, is_role, sysadmin}
+use Rattle.access.specs.Orders.{InTurn}
+use Rattle.catalogue.specs.Judgements.{judged_kind, entity_reasons, entity_named, of_kind, count_kind, limit_of}
 use Rattle.catalogue.specs.Sound.{TakesEntity, Declared}
 use Rattle.catalogue.proofs.Judging.{judged_ok}
 use Rattle.access.proofs.Turns.{turn_push, turn_ind}
-use Rattle.catalogue.proofs.Standing.{nth_stays, nth_last, nth_below, fits_stays}
+use Rattle.catalogue.proofs.Standing.{fits_stays}
 
 taken_ok : {X : Type 0} (r : Result X Code) → is_ok r ≡ true → (x : X) × (r ≡ Ok x)
 taken_ok (Ok x) e = (x, refl)

@@ -1,24 +1,21 @@
 -- A judgement that takes a value found no reason against it.
-use Rattle.std.proofs.Common.{◌≡◌, ℕ, Bool, true, false, cond, not, ◌&&◌, ◌||◌, List, [], ◌∷◌, is_some, is_ok, Some, None, Ok, Err, Option, Result, sym, refl, ap, subst, arith}
+use Rattle.std.proofs.Common.{◌≡◌, ℕ, Bool, true, false, cond, ◌&&◌, ◌||◌, List, [], ◌∷◌, is_some, is_ok, Some, None, Ok, Err, Option, Result, refl, ap, subst, arith}
 use Rattle.std.specs.List.{AllByRecursion as All}
 use Rattle.std.proofs.lemmas.Bool.{not-false, and_parts, or_parts, false≢true}
 use Rattle.access.specs.declared.entities.Entity.{Entity}
 use Rattle.access.specs.declared.entities.Kind.{Kind}
-use Rattle.access.specs.declared.entities.Kind.TheVariants.{Container, Table, Procedure, Account, Role}
 use Rattle.access.specs.declared.entities.Mode.{Mode}
-use Rattle.access.specs.declared.entities.Mode.TheVariants.{Creator, Parent}
 use Rattle.access.specs.declared.rights.RightRecord.{RightRecord}
 use Rattle.access.specs.declared.roles.Link.{Link}
 use Rattle.access.specs.declared.roles.Member.{Member}
 use Rattle.access.specs.declared.code.Object.{Object}
 use Rattle.access.specs.declared.code.ObjectNumbers.{ObjectNumbers}
-use Rattle.access.specs.declared.code.Runner.{Runner}
 use Rattle.access.specs.declared.code.Line.{Line}
 use Rattle.access.specs.Codes.{Code}
 use Rattle.access.specs.Numbers.{kind_at, mode_at, right_at, option_at, object_at, runner_at}
-use Rattle.access.specs.Lists.{fits, stands, is_role, is_principal}
+use Rattle.access.specs.Lists.{fits, stands, is_role}
 use Rattle.access.specs.Orders.{role_below}
-use Rattle.catalogue.specs.Judgements.{Reason, judged, judged_kind, judged_entity, entity_reasons, entity_named, mode_for, own_number, judged_link, link_reasons, link_named, judged_right, right_reasons, right_named, judged_member, member_reasons, member_named, judged_line, judged_objects, line_reasons, line_named}
+use Rattle.catalogue.specs.Judgements.{Reason, judged, judged_kind, judged_entity, entity_reasons, entity_named, own_number, judged_link, link_reasons, link_named, judged_right, right_reasons, right_named, judged_member, member_reasons, member_named, judged_line, judged_objects, line_reasons, line_named}
 use Rattle.catalogue.specs.Sound.{TakesEntity, TakesRight, TakesMember, TakesLine}
 
 module _ {X : Type 0} where

@@ -1,5 +1,5 @@
 -- Each building call keeps a book's lists.
-use Rattle.std.proofs.Common.{◌≡◌, ℕ, ◌≤◌, Bool, true, false, ltb, List, [], ◌∷◌, ◌++◌, length, set, Some, None, Decides, Option, Result, sym, refl, ap, ◌∙◌, subst, arith, lit≤}
+use Rattle.std.proofs.Common.{◌≡◌, ℕ, ◌≤◌, Bool, ltb, List, [], ◌∷◌, ◌++◌, length, set, Some, None, Decides, Option, Result, sym, refl, subst, arith, lit≤}
 use Rattle.std.specs.List.{slice_get}
 use Rattle.std.proofs.ByRecursion.{All-set, All-weaker}
 use Rattle.std.proofs.lemmas.List.{length-set}

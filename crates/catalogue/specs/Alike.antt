@@ -1,5 +1,5 @@
 -- Which records stand for the same.
-use Rattle.std.specs.Prelude.{ℕ, Bool, true, false, ◌&&◌, ◌==◌}
+use Rattle.std.specs.Prelude.{Bool, true, false, ◌&&◌, ◌==◌}
 use Rattle.access.specs.declared.rights.RightRecord.{RightRecord}
 use Rattle.access.specs.declared.roles.Link.{Link}
 use Rattle.access.specs.declared.roles.Member.{Member}

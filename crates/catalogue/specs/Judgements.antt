@@ -17,7 +17,6 @@ use Rattle.access.specs.declared.code.Object.TheVariants as object
 use Rattle.access.specs.declared.code.ObjectNumbers.{ObjectNumbers}
 use Rattle.access.specs.declared.code.Runner.{Runner}
 use Rattle.access.specs.declared.code.Runner.TheVariants as runner
-use Rattle.access.specs.declared.code.Action.{Action}
 use Rattle.access.specs.declared.code.Action.TheVariants as action
 use Rattle.access.specs.declared.code.Line.{Line}
 use Rattle.access.specs.Codes.{Code, code}

@@ -1,5 +1,5 @@
 -- Which lists a catalogue may mean, and which a book may hold.
-use Rattle.std.specs.Prelude.{◌≡◌, ℕ, ◌≤◌, Bool, true, false, List, [], length, take, drop, is_ok, Some}
+use Rattle.std.specs.Prelude.{◌≡◌, ℕ, ◌≤◌, Bool, true, false, List, length, take, drop, is_ok, Some}
 use Rattle.std.specs.List.{AllByRecursion as All}
 use Rattle.access.specs.declared.entities.Entity.{Entity}
 use Rattle.access.specs.declared.rights.RightRecord.{RightRecord}

@@ -49,8 +49,8 @@ pub fn judge_right<C: Catalogue>(
     right: u8,
     option: u8,
 ) -> Result<RightRecord, Refusal>
-    requires { Sound (meaning c.now) }
-    ensures { coded result ≡ judged_right (meaning c.now).entities principal entity right option }
+    requires { Sound (C.meaning c.now) }
+    ensures { coded result ≡ judged_right (C.meaning c.now).entities principal entity right option }
 {
     let (Some(right), Some(option)) = (Right::listed(right), option_listed(option)) else {
         return Err(Refusal::NotListed);
@@ -74,8 +74,8 @@ pub fn judge_right<C: Catalogue>(
 
 // The member record that the numbers name, or why a book with the catalogue's entities does not take it.
 pub fn judge_member<C: Catalogue>(c: &C, account: u8, role: u8) -> Result<Member, Refusal>
-    requires { Sound (meaning c.now) }
-    ensures { coded result ≡ judged_member (meaning c.now).entities account role }
+    requires { Sound (C.meaning c.now) }
+    ensures { coded result ≡ judged_member (C.meaning c.now).entities account role }
 {
     let (Some(who), Some(group)) = (c.entity_at(account as usize), c.entity_at(role as usize))
     else {

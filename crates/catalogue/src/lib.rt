@@ -1,4 +1,6 @@
 // The interface of catalogues, which lists one may mean, and how records are judged and found.
+#![tactic(auto)]
+
 mod catalogues;
 mod entities;
 mod lines;

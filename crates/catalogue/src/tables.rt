@@ -24,7 +24,7 @@ pub fn record_at<T: Copy>(table: &[T], n: usize) -> Option<T>
 
 // The number of the first record that stands for the same as x.
 pub fn find<T: Same>(table: &[T], x: &T) -> Option<usize>
-    ensures { result ≡ position (λ y. alike y x.now) table.now }
+    ensures { result ≡ position (λ y. T.alike y x.now) table.now }
 {
     for (i, y) in table.iter().enumerate() {
         if y.same(x) {

@@ -1,4 +1,6 @@
 // The image: a book's five lists as bytes.
+#![tactic(auto)]
+
 mod bodies;
 mod contents;
 mod images;

@@ -1,4 +1,6 @@
 // Images written, read and damaged.
+#![tactic(auto)]
+
 #[cfg(test)]
 mod layers;
 #[cfg(test)]

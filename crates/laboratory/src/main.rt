@@ -1,5 +1,7 @@
 // Fills a layer over a book with the laboratory example, with proposals and with calls that are declined, and prints what
 // happened.
+#![tactic(auto)]
+
 use access::ObjectNumbers;
 use book::{Book, Call, fill};
 use layer::{Change, Layer, Response};

@@ -1,4 +1,6 @@
 // Replays how a session of account 4 comes to impersonate account 3 in the laboratory example, with and without one right.
+#![tactic(auto)]
+
 use access::{Action, Event, Line, Object, ObjectNumbers, Right, RightRecord, Runner};
 use book::{Answer, Book, Call, fill};
 use replay::replay;

@@ -1,4 +1,6 @@
 // Proposals above any catalogue.
+#![tactic(auto)]
+
 mod changes;
 mod layers;
 mod proposals;

@@ -1,4 +1,6 @@
 // Examples of layers over a book and over layers.
+#![tactic(auto)]
+
 mod examples;
 
 #[cfg(test)]

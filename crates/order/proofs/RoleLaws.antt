@@ -1,8 +1,7 @@
 -- Laws of the order of roles: the test is the relation, and links that close no circle give an order.
-use Rattle.std.proofs.Common.{◌≡◌, ℕ, Bool, true, false, ◌&&◌, ◌||◌, eqb, ◌⊎◌, List, [], ◌∷◌, ◌++◌, Decides, sym, refl, ap, ◌∙◌, subst, inl, inr, ⊎_elim, append_assoc, append-nil}
+use Rattle.std.proofs.Common.{◌≡◌, ℕ, Bool, true, ◌&&◌, ◌||◌, eqb, ◌⊎◌, List, [], ◌∷◌, ◌++◌, Decides, sym, refl, ap, ◌∙◌, subst, inl, inr, ⊎_elim, append_assoc, append-nil}
 use mathlib.Core.List.Memᴰ
 use mathlib.Core.List.{Memᴰ}
-use Rattle.std.proofs.lemmas.Bool.{eqb-true}
 use Rattle.std.proofs.lemmas.Bool.Decides.{Decides-like, Decides-and, Decides-or, Decides-eqb}
 use Rattle.access.specs.Lists.{◌∈◌, fits, is_role, sysadmin}
 use Rattle.access.specs.Orders.{RoleBelow, joined_by, unlinked, role_below, LinkFits, Linked}
@@ -40,12 +39,12 @@ module _ (es : List Entity) where
   to_alone : {x y : ℕ} → RoleBelow es [] x y → Alone x y
   to_alone (RoleBelow.itself h) = (h, inl refl)
   to_alone (RoleBelow.linked m) = absurd (Memᴰ.not-nil m)
-  to_alone (RoleBelow.to-sysadmin h) = (h, inr refl)
+  to_alone (RoleBelow.to_sysadmin h) = (h, inr refl)
   to_alone (RoleBelow.through p q) = alone_through (to_alone p) (to_alone q)
 
   from_alone : {x y : ℕ} → Alone x y → RoleBelow es [] x y
   from_alone {x} (h, inl e) = subst (RoleBelow es [] x) e (RoleBelow.itself h)
-  from_alone {x} (h, inr e) = subst (RoleBelow es [] x) (sym e) (RoleBelow.to-sysadmin h)
+  from_alone {x} (h, inr e) = subst (RoleBelow es [] x) (sym e) (RoleBelow.to_sysadmin h)
 
   same_test : (b : Bool) → Decides b (b ≡ true)
   same_test b = (λ t. t, λ t. t)
@@ -72,13 +71,13 @@ module _ (es : List Entity) where
         ⊎_elim (λ h. inl (RoleBelow.linked h))
         (λ h. subst (λ (i : Link). Over ls k i.lower i.upper) (sym (Memᴰ.eq_of_singleton h)) (inr (RoleBelow.itself l, RoleBelow.itself u)))
         (Memᴰ.append_cases ls m)
-    to_over l u (RoleBelow.to-sysadmin h) = inl (RoleBelow.to-sysadmin h)
+    to_over l u (RoleBelow.to_sysadmin h) = inl (RoleBelow.to_sysadmin h)
     to_over l u (RoleBelow.through p q) = over_through (to_over l u p) (to_over l u q)
 
     wider : {x y : ℕ} → RoleBelow es ls x y → RoleBelow es (ls ++ k ∷ []) x y
     wider (RoleBelow.itself h) = RoleBelow.itself h
     wider (RoleBelow.linked m) = RoleBelow.linked (Memᴰ.append_left (k ∷ []) m)
-    wider (RoleBelow.to-sysadmin h) = RoleBelow.to-sysadmin h
+    wider (RoleBelow.to_sysadmin h) = RoleBelow.to_sysadmin h
     wider (RoleBelow.through p q) = RoleBelow.through (wider p) (wider q)
 
     pub from_over : {x y : ℕ} → Over ls k x y → RoleBelow es (ls ++ k ∷ []) x y

@@ -1,4 +1,6 @@
 // Orders of entity numbers, and what rights are carried along them.
+#![tactic(auto)]
+
 mod orders;
 mod places;
 mod roles;

@@ -11,7 +11,7 @@ use access::RightSet;
 
 // The rights that `base` has at x and at the places above it.
 fn gather<O: Order>(order: &O, base: &Row, x: usize) -> RightSet
-    ensures { (k : ℕ) → Decides (bit result.bits k) (Carried (below order.now) (told base.now.sets) 96 x k) }
+    ensures { (k : ℕ) → Decides (bit result.bits k) (Carried (O.below order.now) (told base.now.sets) 96 x k) }
 {
     let above = order.above(x);
     let mut all = RightSet::empty();
@@ -25,7 +25,7 @@ fn gather<O: Order>(order: &O, base: &Row, x: usize) -> RightSet
 
 // Each place gets the rights that `base` has at it and at the places above it.
 pub fn spread<O: Order>(order: &O, base: &Row) -> Row
-    ensures tells { (x k : ℕ) → x < 96 → Decides (told result.sets x k) (Carried (below order.now) (told base.now.sets) 96 x k) }
+    ensures tells { (x k : ℕ) → x < 96 → Decides (told result.sets x k) (Carried (O.below order.now) (told base.now.sets) 96 x k) }
     ensures past { (x k : ℕ) → 96 ≤ x → told result.sets x k ≡ false }
 {
     let mut row = Row::empty();

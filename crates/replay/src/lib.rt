@@ -1,4 +1,6 @@
 // Replay of a list of steps: whether each is allowed, and whether a right stands at the end.
+#![tactic(auto)]
+
 mod fitting;
 mod judging;
 mod laws;

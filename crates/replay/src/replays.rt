@@ -143,8 +143,8 @@ pub fn replay<C: Catalogue>(
     right: u8,
     steps: &[Step],
 ) -> Result<(), Refusal>
-    requires { Sound (meaning catalogue.now) }
-    ensures { Replays (meaning catalogue.now) account sense entity right steps.now (coded result) }
+    requires { Sound (C.meaning catalogue.now) }
+    ensures { Replays (C.meaning catalogue.now) account sense entity right steps.now (coded result) }
 {
     workspace.model.load(catalogue);
     let right = judge_question(workspace.model.entities(), account, sense, entity, right)?;

@@ -1,4 +1,6 @@
 // What a catalogue holds, printed for people.
+#![tactic(auto)]
+
 ghost use Rattle.catalogue.specs.Sound.{Sound};
 
 use access::{Entity, Line, Link, Member, RightRecord};
@@ -12,7 +14,7 @@ trait Listed: fmt::Display + Sized + Drop {
     fn name() -> &'static str;
 
     fn at<C: Catalogue>(c: &C, n: usize) -> Option<Self>
-        requires { Sound (meaning c.now) };
+        requires { Sound (C.meaning c.now) };
 }
 
 impl Listed for Entity {
@@ -87,7 +89,7 @@ impl Listed for Line {
 
 // Prints a list with its count, and its records with their numbers.
 fn print_list<C: Catalogue, T: Listed>(rt: &impl Print, c: &C) -> anyhow::Result<()>
-    requires { Sound (meaning c.now) }
+    requires { Sound (C.meaning c.now) }
 {
     let name = T::name();
     let count = c.count(T::list());
@@ -101,7 +103,7 @@ fn print_list<C: Catalogue, T: Listed>(rt: &impl Print, c: &C) -> anyhow::Result
 
 // Prints the five lists.
 pub fn print_catalogue<C: Catalogue>(rt: &impl Print, c: &C) -> anyhow::Result<()>
-    requires { Sound (meaning c.now) }
+    requires { Sound (C.meaning c.now) }
 {
     print_list::<C, Entity>(rt, c)?;
     print_list::<C, Link>(rt, c)?;

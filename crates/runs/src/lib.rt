@@ -1,4 +1,6 @@
 // The steps of a database session, and the laws of the runs that they make.
+#![tactic(auto)]
+
 mod laws;
 mod steps;
 mod text;

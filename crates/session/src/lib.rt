@@ -1,4 +1,6 @@
 // A catalogue loaded for questions about sessions, the rights that an account holds and may grant, and the state of a run.
+#![tactic(auto)]
+
 mod loads;
 mod marks;
 mod models;

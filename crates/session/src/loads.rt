@@ -7,9 +7,9 @@ use catalogue::{Catalogue, ListName};
 
 // Each of these makes a table that has room for it the list of a catalogue.
 pub(crate) fn load_entities<C: Catalogue>(c: &C, table: &mut Vec<Entity>)
-    requires sound { Sound (meaning c.now) }
+    requires sound { Sound (C.meaning c.now) }
     requires room { 96 ≤ vec_capacity table.old }
-    ensures items { table.new.items ≡ (meaning c.now).entities }
+    ensures items { table.new.items ≡ (C.meaning c.now).entities }
     ensures capacity { vec_capacity table.new ≡ vec_capacity table.old }
 {
     table.clear();
@@ -22,9 +22,9 @@ pub(crate) fn load_entities<C: Catalogue>(c: &C, table: &mut Vec<Entity>)
 }
 
 pub(crate) fn load_links<C: Catalogue>(c: &C, table: &mut Vec<Link>)
-    requires sound { Sound (meaning c.now) }
+    requires sound { Sound (C.meaning c.now) }
     requires room { 64 ≤ vec_capacity table.old }
-    ensures items { table.new.items ≡ (meaning c.now).links }
+    ensures items { table.new.items ≡ (C.meaning c.now).links }
     ensures capacity { vec_capacity table.new ≡ vec_capacity table.old }
 {
     table.clear();
@@ -37,9 +37,9 @@ pub(crate) fn load_links<C: Catalogue>(c: &C, table: &mut Vec<Link>)
 }
 
 pub(crate) fn load_rights<C: Catalogue>(c: &C, table: &mut Vec<RightRecord>)
-    requires sound { Sound (meaning c.now) }
+    requires sound { Sound (C.meaning c.now) }
     requires room { 4096 ≤ vec_capacity table.old }
-    ensures items { table.new.items ≡ (meaning c.now).rights }
+    ensures items { table.new.items ≡ (C.meaning c.now).rights }
     ensures capacity { vec_capacity table.new ≡ vec_capacity table.old }
 {
     table.clear();
@@ -52,9 +52,9 @@ pub(crate) fn load_rights<C: Catalogue>(c: &C, table: &mut Vec<RightRecord>)
 }
 
 pub(crate) fn load_members<C: Catalogue>(c: &C, table: &mut Vec<Member>)
-    requires sound { Sound (meaning c.now) }
+    requires sound { Sound (C.meaning c.now) }
     requires room { 4096 ≤ vec_capacity table.old }
-    ensures items { table.new.items ≡ (meaning c.now).members }
+    ensures items { table.new.items ≡ (C.meaning c.now).members }
     ensures capacity { vec_capacity table.new ≡ vec_capacity table.old }
 {
     table.clear();
@@ -67,9 +67,9 @@ pub(crate) fn load_members<C: Catalogue>(c: &C, table: &mut Vec<Member>)
 }
 
 pub(crate) fn load_lines<C: Catalogue>(c: &C, table: &mut Vec<Line>)
-    requires sound { Sound (meaning c.now) }
+    requires sound { Sound (C.meaning c.now) }
     requires room { 4096 ≤ vec_capacity table.old }
-    ensures items { table.new.items ≡ (meaning c.now).lines }
+    ensures items { table.new.items ≡ (C.meaning c.now).lines }
     ensures capacity { vec_capacity table.new ≡ vec_capacity table.old }
 {
     table.clear();

@@ -1,4 +1,6 @@
 // Lists of steps, sound and damaged, with what their replay must return.
+#![tactic(auto)]
+
 #[cfg(test)]
 mod examples;
 #[cfg(test)]

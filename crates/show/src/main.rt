@@ -1,4 +1,6 @@
 // Reads an image from standard input, and prints what it holds, or its first fault.
+#![tactic(auto)]
+
 use access::Refusal;
 use book::Book;
 use image::read;

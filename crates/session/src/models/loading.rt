@@ -32,8 +32,8 @@ impl Model {
 
     // Loads a catalogue in place of the one before.
     pub fn load<C: Catalogue>(&mut self, c: &C)
-        requires { Sound (meaning c.now) }
-        ensures lists { lists_of self.new ≡ meaning c.now }
+        requires { Sound (C.meaning c.now) }
+        ensures lists { lists_of self.new ≡ C.meaning c.now }
         ensures ready { Ready self.new }
     {
         load_entities(c, &mut self.entities);

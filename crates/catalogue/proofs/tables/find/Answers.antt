@@ -1,5 +1,5 @@
-use Rattle.std.proofs.Common.{sym, ◌∙◌}
-use Rattle.catalogue.proofs.Search.{passed_none, passed_more, passed_here, passed_all}
+use Rattle.std.proofs.Common.{sym}
+use Rattle.catalogue.proofs.Search.{passed_more, passed_here, passed_all}
 use Rattle.catalogue.proofs.tables.find.Goals as goal
 
 pub returns-then-same : goal.returns-then-same

@@ -6,14 +6,14 @@ use Rattle.image.specs.Layout.{in_order}
 use Rattle.image.proofs.Stepping.{parts_on, parts_off, parts_all}
 use Rattle.image.proofs.bodies.read_bodies.Goals as goal
 
-pub returns-in-err-read-body : goal.returns-in-err-read-body
-returns-in-err-read-body c =
+pub returns-in_err-read_body : goal.returns-in_err-read_body
+returns-in_err-read_body c =
     let p = err_from_is_err_and c.from-residual.result c.from-residual.ensures.1 in
-    rw (p.1, p.2) (parts_off c.args.bytes.now in_order c.loop-list.list-index Entities (lists_of c.loop-list.book) (omega arith) _ c.in-err-read-body.ensures ∙ c.loop-list.invariant)
+    rw (p.1, p.2) (parts_off c.args.bytes.now in_order c.loop-list.list-index Entities (lists_of c.loop-list.book) (omega arith) _ c.in_err-read_body.ensures ∙ c.loop-list.invariant)
 
 pub loop-list-preserved : goal.loop-list-preserved
 loop-list-preserved c =
-    parts_on c.args.bytes.now in_order c.loop-list.list-index Entities (lists_of c.loop-list.book) (omega arith) (lists_of c.read-body.new.book) c.in-ok-read-body.ensures
+    parts_on c.args.bytes.now in_order c.loop-list.list-index Entities (lists_of c.loop-list.book) (omega arith) (lists_of c.read_body.new.book) c.in_ok-read_body.ensures
     ∙ c.loop-list.invariant
 
 pub returns : goal.returns

@@ -6,24 +6,24 @@ use Rattle.image.proofs.Stepping.{read_contents, read_firsts, read_rest}
 use Rattle.image.proofs.Entries.{contents_good, laid, firsts_inside}
 use Rattle.image.proofs.bodies.rebuild.Goals as goal
 
-pub check-firsts-requires : goal.check-firsts-requires
-check-firsts-requires c = firsts_inside c.args.bytes.now (contents_good c.args.bytes.now _ (sym c.in-ok-contents-end.ensures))
+pub check_firsts-requires : goal.check_firsts-requires
+check_firsts-requires c = firsts_inside c.args.bytes.now (contents_good c.args.bytes.now _ (sym c.in_ok-contents_end.ensures))
 
-pub read-bodies-requires : goal.read-bodies-requires
-read-bodies-requires c = laid c.args.bytes.now (contents_good c.args.bytes.now _ (sym c.in-ok-contents-end.ensures))
+pub read_bodies-requires : goal.read_bodies-requires
+read_bodies-requires c = laid c.args.bytes.now (contents_good c.args.bytes.now _ (sym c.in_ok-contents_end.ensures))
 
-pub returns-in-err-contents-end : goal.returns-in-err-contents-end
-returns-in-err-contents-end c =
+pub returns-in_err-contents_end : goal.returns-in_err-contents_end
+returns-in_err-contents_end c =
     let p = err_from_is_err_and c.from-residual.result c.from-residual.ensures.1 in
-    rw (p.1, p.2) (read_contents c.args.bytes.now _ c.in-err-contents-end.ensures)
+    rw (p.1, p.2) (read_contents c.args.bytes.now _ c.in_err-contents_end.ensures)
 
-pub returns-in-err-check-firsts : goal.returns-in-err-check-firsts
-returns-in-err-check-firsts c =
-    let p = err_from_is_err_and c.from-residual-in-err-check-firsts.result c.from-residual-in-err-check-firsts.ensures.1 in
-    rw (p.1, p.2) (read_firsts c.args.bytes.now _ _ c.in-ok-contents-end.ensures c.in-err-check-firsts.ensures)
+pub returns-in_err-check_firsts : goal.returns-in_err-check_firsts
+returns-in_err-check_firsts c =
+    let p = err_from_is_err_and c.from-residual-in_err-check_firsts.result c.from-residual-in_err-check_firsts.ensures.1 in
+    rw (p.1, p.2) (read_firsts c.args.bytes.now _ _ c.in_ok-contents_end.ensures c.in_err-check_firsts.ensures)
 
 pub returns : goal.returns
 returns c =
-    c.read-bodies.ensures
+    c.read_bodies.ensures
     ∙ ap (built_parts c.args.bytes.now in_order) c.clear.ensures
-    ∙ read_rest c.args.bytes.now _ _ c.in-ok-contents-end.ensures c.in-ok-check-firsts.ensures
+    ∙ read_rest c.args.bytes.now _ _ c.in_ok-contents_end.ensures c.in_ok-check_firsts.ensures

@@ -6,8 +6,8 @@ use Rattle.image.proofs.writer.image_len.Goals as goal
 
 pub loop-list-preserved : goal.loop-list-preserved
 loop-list-preserved c = (
-  end_more (lists_of c.args.book.now) in_order c.loop-list.list-index _ (omega arith) c.loop-list.end c.body-len-end.result c.body-len-end.ensures.value ∙ c.loop-list.invariant.0,
-  omega (arith, c.body-len-end.ensures.bound, c.loop-list.invariant.1),
+  end_more (lists_of c.args.book.now) in_order c.loop-list.list-index _ (omega arith) c.loop-list.end c.body_len-end.result c.body_len-end.ensures.value ∙ c.loop-list.invariant.0,
+  omega (arith, c.body_len-end.ensures.bound, c.loop-list.invariant.1),
 )
 
 pub returns : goal.returns

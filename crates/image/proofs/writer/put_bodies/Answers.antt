@@ -13,8 +13,8 @@ pub loop-list-init : goal.loop-list-init
 unfolding bodies
 loop-list-init c = left_none c.args.room.now c.args.at (bodies (lists_of c.args.book.now)) c.requires
 
-pub put-body-end-requires : goal.put-body-end-requires
-put-body-end-requires c =
+pub put_body-end-requires : goal.put_body-end-requires
+put_body-end-requires c =
     let l = lists_of c.args.book.now in
     let i = c.loop-list.list-index in
     let more = ap length (bodies_more l in_order i Entities (omega arith)) ∙ length-append (body_of l (get_or in_order i Entities)) (flat_map (body_of l) (drop (i + 1) in_order)) in
@@ -25,8 +25,8 @@ loop-list-preserved c =
     let l = lists_of c.args.book.now in
     let i = c.loop-list.list-index in
     left_more c.args.room.now c.args.at (bodies l) c.loop-list.room c.loop-list.end (flat_map (body_of l) (drop i in_order)) _ (flat_map (body_of l) (drop (i + 1) in_order))
-    c.put-body-end.new.room c.put-body-end.result c.loop-list.invariant (bodies_more l in_order i _ (omega arith))
-    c.put-body-end.ensures.room c.put-body-end.ensures.end
+    c.put_body-end.new.room c.put_body-end.result c.loop-list.invariant (bodies_more l in_order i _ (omega arith))
+    c.put_body-end.ensures.room c.put_body-end.ensures.end
 
 pub returns : goal.returns
 returns c =

@@ -13,8 +13,8 @@ pub loop-list-init : goal.loop-list-init
 unfolding contents
 loop-list-init c = (left_none c.args.room.now 0 (contents (lists_of c.args.book.now)) c.requires, omega arith)
 
-pub put-entry-at-requires : goal.put-entry-at-requires
-put-entry-at-requires c =
+pub put_entry-at-requires : goal.put_entry-at-requires
+put_entry-at-requires c =
     let b = c.args.book.now in
     let i = c.loop-list.list-index in
     let long = ap length (entries_more (lists_of b) in_order i Entities (omega arith) c.loop-list.start _ refl) in
@@ -30,11 +30,11 @@ loop-list-preserved c =
     let start = c.loop-list.start in
     let n = count_of l (get_or in_order i Entities) in (
       left_more c.args.room.now 0 (contents l) c.loop-list.room c.loop-list.at (entries_from l start (drop i in_order)) (entry_bytes start n)
-          (entries_from l (start + c.body-len-start.result) (drop (i + 1) in_order)) c.put-entry-at.new.room c.put-entry-at.result c.loop-list.invariant.0
-          (entries_more l in_order i Entities (omega arith) start c.body-len-start.result c.body-len-start.ensures.value)
-          (c.put-entry-at.ensures.room ∙ ap (λ m. written c.loop-list.room c.loop-list.at (entry_bytes start m)) c.count.ensures)
-          c.put-entry-at.ensures.end,
-      omega (arith, c.body-len-start.ensures.bound, c.loop-list.invariant.1),
+          (entries_from l (start + c.body_len-start.result) (drop (i + 1) in_order)) c.put_entry-at.new.room c.put_entry-at.result c.loop-list.invariant.0
+          (entries_more l in_order i Entities (omega arith) start c.body_len-start.result c.body_len-start.ensures.value)
+          (c.put_entry-at.ensures.room ∙ ap (λ m. written c.loop-list.room c.loop-list.at (entry_bytes start m)) c.count.ensures)
+          c.put_entry-at.ensures.end,
+      omega (arith, c.body_len-start.ensures.bound, c.loop-list.invariant.1),
     )
 
 pub returns : goal.returns

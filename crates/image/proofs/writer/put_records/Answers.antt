@@ -11,8 +11,8 @@ pub loop-n-init : goal.loop-n-init
 unfolding body_of
 loop-n-init c = left_none c.args.room.now c.args.at (body_of (lists_of c.args.book.now) c.args.list) c.requires.room
 
-pub put-record-end-requires : goal.put-record-end-requires
-put-record-end-requires c =
+pub put_record-end-requires : goal.put_record-end-requires
+put_record-end-requires c =
     let l = lists_of c.args.book.now in
     let p = c.args.list in
     let n = c.loop-n.n in
@@ -25,8 +25,8 @@ loop-n-preserved c =
     let p = c.args.list in
     let n = c.loop-n.n in
     left_more c.args.room.now c.args.at (body_of l p) c.loop-n.room c.loop-n.end (strung (drop n (records_of l p))) (record_at l p n) (strung (drop (n + 1) (records_of l p)))
-    c.put-record-end.new.room c.put-record-end.result c.loop-n.invariant (records_more l p n (omega (arith, c.requires.all)))
-    c.put-record-end.ensures.room c.put-record-end.ensures.end
+    c.put_record-end.new.room c.put_record-end.result c.loop-n.invariant (records_more l p n (omega (arith, c.requires.all)))
+    c.put_record-end.ensures.room c.put_record-end.ensures.end
 
 pub returns : goal.returns
 returns c =

@@ -6,4 +6,4 @@ use Rattle.image.proofs.writer.write.Goals as goal
 pub returns : goal.returns
 returns c =
     let b = c.args.book.now in
-    record { answer = c.put-image.ensures.answer; room = c.put-image.ensures.room; reads = write_reads (lists_of b) (book_kept b) }
+    record { answer = c.put_image.ensures.answer; room = c.put_image.ensures.room; reads = write_reads (lists_of b) (book_kept b) }

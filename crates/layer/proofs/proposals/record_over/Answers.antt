@@ -11,6 +11,6 @@ returns-then-n-count g c xs found count =
 pub returns : goal.returns
 returns g c xs found count =
     let own = picked g.T.Proposed.held c.args.proposals.now in
-    c.nth-proposed.ensures
+    c.nth_proposed.ensures
     ∙ ap (λ k. slice_get own (c.args.n - k)) count
     ∙ sym (nth_back xs own c.args.n (omega (arith, count, c.if-n-count.false)))

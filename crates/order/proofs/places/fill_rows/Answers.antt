@@ -20,7 +20,7 @@ loop-x-preserved c =
     let rows = c.loop-x.rows in
     let e = get_or es x no_entity in
     let l : x < length rows = omega (arith, c.requires.few, c.requires.room) in
-    fill_row es rows x c.loop-x.invariant c.requires.rooted e (slice_get-get_or es x no_entity c.loop-x-test.true) l _ c.place-row.ensures
+    fill_row es rows x c.loop-x.invariant c.requires.rooted e (slice_get-get_or es x no_entity c.loop-x-test.true) l _ c.place_row.ensures
 
 pub returns : goal.returns
 returns c = filled_rows _ _ _ c.loop-x.invariant c.loop-x-test.false

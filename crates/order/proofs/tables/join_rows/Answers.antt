@@ -5,7 +5,7 @@ use Rattle.access.specs.Bits.{bit}
 use Rattle.access.proofs.BitLaws.{bit_or_lem}
 use Rattle.order.proofs.RowLaws.{join_step, join_past, or_when, or_unless}
 use Rattle.order.proofs.tables.join_rows.Goals as goal
-use Rattle.order.proofs.tables.join_rows.Goals.{then-has-bit, else-has-bit}
+use Rattle.order.proofs.tables.join_rows.Goals.{then-has_bit, else-has_bit}
 
 pub loop-row-init : goal.loop-row-init
 loop-row-init c = (λ k y h. absurd (omega arith), λ k h. refl)
@@ -18,13 +18,13 @@ loop-row-preserved c =
     let i = c.loop-row.row-index in
     let row = get_or s i 0 in
     let h : i < length s = omega arith in
-    elim c.if-has-bit.branch [
-      | then-has-bit w ↦
+    elim c.if-has_bit.branch [
+      | then-has_bit w ↦
           join_step c.args.rows.now s lower more i (bit_or row more) _ h w.rows-is c.loop-row.invariant
-          (λ y. bit_or_lem row more y ∙ or_when (bit row y) (bit row lower) (bit more y) (sym c.has-bit.ensures ∙ w.if-has-bit.true))
-      | else-has-bit w ↦
+          (λ y. bit_or_lem row more y ∙ or_when (bit row y) (bit row lower) (bit more y) (sym c.has_bit.ensures ∙ w.if-has_bit.true))
+      | else-has_bit w ↦
           join_step c.args.rows.now s lower more i row _ h w.rows-is c.loop-row.invariant
-          (λ y. or_unless (bit row y) (bit row lower) (bit more y) (sym c.has-bit.ensures ∙ w.if-has-bit.false))
+          (λ y. or_unless (bit row y) (bit row lower) (bit more y) (sym c.has_bit.ensures ∙ w.if-has_bit.false))
     ]
 
 pub returns : goal.returns

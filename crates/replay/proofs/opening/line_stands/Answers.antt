@@ -19,5 +19,5 @@ returns-else-among c =
     let r = c.among.result in
     let q = c.among-else-among.result in
     let listed = subst (λ (ls : List Line). Decides r (c.args.line ∈ before ls [])) c.lines.ensures c.among.ensures in
-    let came = subst (λ (ls : List Line). Decides q (c.args.line ∈ before ls [])) c.as-slice.ensures.value c.among-else-among.ensures in
+    let came = subst (λ (ls : List Line). Decides q (c.args.line ∈ before ls [])) c.as_slice.ensures.value c.among-else-among.ensures in
     line_planted L (state_of L c.args.state.now) c.args.line r q listed c.if-among.false came

@@ -40,7 +40,7 @@ loop-i-preserved c =
     let rows : c.if-seen.seen ≡ true → Rowed L (state_of L c.commit.new.self) seen.account seen.rows.holds.sets seen.rows.grants.sets =
     elim c.if-seen.branch [
       | then-seen w ↦ λ t. subst (λ (U : State). Rowed L U seen.account seen.rows.holds.sets seen.rows.grants.sets) same
-          (rows_stay L seen.account seen.rows.holds.sets seen.rows.grants.sets T _ (w.keeps-records-seen.ensures (sym w.seen-is ∙ t)) (c.allowed.ensures.kept w.if-seen.true))
+          (rows_stay L seen.account seen.rows.holds.sets seen.rows.grants.sets T _ (w.keeps_records-seen.ensures (sym w.seen-is ∙ t)) (c.allowed.ensures.kept w.if-seen.true))
       | else-seen w ↦ λ t. absurd (both_ways _ (w.seen-is ∙ w.if-seen.false) t)
     ] in (
       subst (λ (U : State). Run L S (take (c.loop-i.i + 1) c.args.steps.now) U) same

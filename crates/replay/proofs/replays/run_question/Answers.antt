@@ -27,19 +27,19 @@ returns-in-Some c =
     let L = lists_of c.args.workspace.now.model in
     stopped (subst (λ (S : State). Stops L S c.args.steps.now c.in-Some.step) (c.open.ensures.state L) c.in-Some.ensures.outcome)
 
-pub returns-then-right-stands : goal.returns-then-right-stands
-returns-then-right-stands c =
+pub returns-then-right_stands : goal.returns-then-right_stands
+returns-then-right_stands c =
     let L = lists_of c.args.workspace.now.model in
     let T = state_of L c.play.new.state in
-    let run = subst (λ (S : State). Run L S c.args.steps.now T) (c.open.ensures.state L) c.in-default.ensures.outcome.run in
-    accepted (comes_to L c.args.account c.args.n c.args.right c.args.steps.now T run c.args.sense (c.right-stands.ensures.0 c.if-right-stands.true))
+    let run = subst (λ (S : State). Run L S c.args.steps.now T) (c.open.ensures.state L) c.in_default.ensures.outcome.run in
+    accepted (comes_to L c.args.account c.args.n c.args.right c.args.steps.now T run c.args.sense (c.right_stands.ensures.0 c.if-right_stands.true))
 
-pub returns-else-right-stands : goal.returns-else-right-stands
-returns-else-right-stands c =
+pub returns-else-right_stands : goal.returns-else-right_stands
+returns-else-right_stands c =
     let L = lists_of c.args.workspace.now.model in
     let T = state_of L c.play.new.state in
-    let run = subst (λ (S : State). Run L S c.args.steps.now T) (c.open.ensures.state L) c.in-default.ensures.outcome.run in
+    let run = subst (λ (S : State). Run L S c.args.steps.now T) (c.open.ensures.state L) c.in_default.ensures.outcome.run in
     let none : Comes L c.args.account c.args.sense c.args.steps.now c.args.n c.args.right → ⊥ =
-    λ q. not_told c.right-stands.result c.right-stands.ensures c.if-right-stands.false
+    λ q. not_told c.right_stands.result c.right_stands.ensures c.if-right_stands.false
     (comes_from L c.args.account c.args.n c.args.right c.args.steps.now T run c.args.sense q) in
     rw c.number.ensures (missing run none)

@@ -9,7 +9,7 @@ pub returns-in-Some : goal.returns-in-Some
 returns-in-Some c =
     let n = c.args.n in
     let es = ap (λ (xs : List Entity). slice_get xs n) c.entities.ensures in
-    created_told (lists_of c.args.model.now) n c.in-Some.e _ (sym (c.in-Some.ensures ∙ es)) c.takes-created.ensures
+    created_told (lists_of c.args.model.now) n c.in-Some.e _ (sym (c.in-Some.ensures ∙ es)) c.takes_created.ensures
 
 pub returns-in-None : goal.returns-in-None
 returns-in-None c =

@@ -11,4 +11,4 @@ returns-in-Some-Some c =
     let L = lists_of c.args.model.now in
     let first : slice_get L.entities (place_of c.args.x) ≡ Some c.in-Some-Some.a = cc in
     let second : slice_get L.entities (place_of c.args.y) ≡ Some c.in-Some-Some.b = cc in
-    Decides-at _ _ c.same-owner.ensures (owner_told L c.args.x c.args.y c.in-Some-Some.a c.in-Some-Some.b first second)
+    Decides-at _ _ c.same_owner.ensures (owner_told L c.args.x c.args.y c.in-Some-Some.a c.in-Some-Some.b first second)

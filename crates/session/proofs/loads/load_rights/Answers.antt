@@ -2,18 +2,18 @@ use Rattle.std.proofs.Common.{◌<◌, length, vec_items, ◌∙◌, arith}
 use Rattle.session.proofs.Copying.{copied_more, copied_past, copied_all}
 use Rattle.session.proofs.loads.load_rights.Goals as goal
 
-pub returns-in-default : goal.returns-in-default
-returns-in-default g c =
+pub returns-in_default : goal.returns-in_default
+returns-in_default g c =
     let xs = (g.C.Catalogue.meaning c.args.c.now).rights in
     let h : c.loop-n.n < length xs = omega arith in
-    absurd (copied_past xs c.loop-n.n h c.in-default.ensures)
+    absurd (copied_past xs c.loop-n.n h c.in_default.ensures)
 
 pub loop-n-preserved : goal.loop-n-preserved
 loop-n-preserved g c =
     let xs = (g.C.Catalogue.meaning c.args.c.now).rights in
-    let p = c.push-reserved.ensures in
+    let p = c.push_reserved.ensures in
     let h : c.loop-n.n < length xs = omega arith in (
-      copied_more xs c.loop-n.n (vec_items c.loop-n.table) (vec_items c.push-reserved.new.self) c.in-Some.x h c.loop-n.invariant.0 p.items c.in-Some.ensures,
+      copied_more xs c.loop-n.n (vec_items c.loop-n.table) (vec_items c.push_reserved.new.self) c.in-Some.x h c.loop-n.invariant.0 p.items c.in-Some.ensures,
       omega arith,
       omega arith,
     )

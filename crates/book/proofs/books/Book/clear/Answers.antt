@@ -6,8 +6,8 @@ use Rattle.catalogue.proofs.Keeping.{new_kept}
 use Rattle.book.specs.Meaning.{lists_of}
 use Rattle.book.proofs.books.Book.clear.Goals as goal
 
-pub invariant-of-self : goal.invariant-of-self
-invariant-of-self c =
+pub invariant_of-self : goal.invariant_of-self
+invariant_of-self c =
     let b = c.args.self.now in
     let l = lists_of b in
     let es : vec_items c.truncate.new.self ≡ new_lists.entities = c.truncate.ensures.items ∙ (kept_out l b.kept).entities.first in

@@ -14,20 +14,20 @@ use Rattle.book.proofs.books.Book.declare.Goals as goal
 takes : (es seen : List Entity) (k p o m : ℕ) (x : Entity) → Ok x ≡ judged_entity seen k p o m → seen ≡ es → TakesEntity es x
 takes es seen k p o m x j e = judged_entity_lem es k p o m x (sym (j ∙ ap (λ s. judged_entity s k p o m) e))
 
-pub push-reserved-requires : goal.push-reserved-requires
-push-reserved-requires c =
+pub push_reserved-requires : goal.push_reserved-requires
+push_reserved-requires c =
     let b = c.args.self.now in
     let l = lists_of b in
-    let x = c.in-ok-x.x in
-    let t = takes (vec_items b.entities) c.as-slice.result.now c.args.kind c.args.parent c.args.owner c.args.mode x c.in-ok-x.ensures c.as-slice.ensures.value in
+    let x = c.in_ok-x.x in
+    let t = takes (vec_items b.entities) c.as_slice.result.now c.args.kind c.args.parent c.args.owner c.args.mode x c.in_ok-x.ensures c.as_slice.ensures.value in
     let few : length (vec_items b.entities) < 96 = entities_room (vec_items b.entities) x (kept_out l b.kept).entities t in
     omega (arith, b.room.0, b.entities.ok.0)
 
-pub invariant-of-self : goal.invariant-of-self
-invariant-of-self c =
+pub invariant_of-self : goal.invariant_of-self
+invariant_of-self c =
     let b = c.args.self.now in
     let l = lists_of b in
-    let x = c.in-ok-x.x in
-    let t = takes (vec_items b.entities) c.as-slice.result.now c.args.kind c.args.parent c.args.owner c.args.mode x c.in-ok-x.ensures c.as-slice.ensures.value in
+    let x = c.in_ok-x.x in
+    let t = takes (vec_items b.entities) c.as_slice.result.now c.args.kind c.args.parent c.args.owner c.args.mode x c.in_ok-x.ensures c.as_slice.ensures.value in
     let k = entity_kept l x (kept_out l b.kept) t in
-    ((omega (arith, b.room.0, c.push-reserved.ensures.capacity), b.room.1, b.room.2, b.room.3, b.room.4), (∣ subst (λ es. Kept (with_entities l es)) (sym c.push-reserved.ensures.items) k ∣₁, tt))
+    ((omega (arith, b.room.0, c.push_reserved.ensures.capacity), b.room.1, b.room.2, b.room.3, b.room.4), (∣ subst (λ es. Kept (with_entities l es)) (sym c.push_reserved.ensures.items) k ∣₁, tt))

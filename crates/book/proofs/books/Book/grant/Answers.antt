@@ -5,9 +5,9 @@ use Rattle.catalogue.proofs.Keeping.{kept_sound}
 use Rattle.book.specs.Meaning.{lists_of}
 use Rattle.book.proofs.books.Book.grant.Goals as goal
 
-pub judge-right-requires : goal.judge-right-requires
-judge-right-requires c = let l = lists_of c.args.self.now in kept_sound l (kept_out l c.args.self.now.kept)
+pub judge_right-requires : goal.judge_right-requires
+judge_right-requires c = let l = lists_of c.args.self.now in kept_sound l (kept_out l c.args.self.now.kept)
 
-pub put-right-requires : goal.put-right-requires
-put-right-requires c =
-    judged_right_lem (lists_of c.args.self.now).entities c.args.principal c.args.entity c.args.right c.args.option c.in-ok-x.x (sym c.in-ok-x.ensures)
+pub put_right-requires : goal.put_right-requires
+put_right-requires c =
+    judged_right_lem (lists_of c.args.self.now).entities c.args.principal c.args.entity c.args.right c.args.option c.in_ok-x.x (sym c.in_ok-x.ensures)

@@ -15,11 +15,11 @@ use Rattle.book.proofs.books.Book.line.Goals as goal
 takes : (es seen : List Entity) (o : ObjectNumbers) (r : ℕ) (y : ObjectNumbers) (x : Line) → Ok x ≡ judged_line seen o r y → seen ≡ es → TakesLine es x
 takes es seen o r y x j e = judged_line_lem es o r y x (sym (j ∙ ap (λ s. judged_line s o r y) e))
 
-pub invariant-of-self : goal.invariant-of-self
-invariant-of-self c =
+pub invariant_of-self : goal.invariant_of-self
+invariant_of-self c =
     let b = c.args.self.now in
     let l = lists_of b in
-    let x = c.in-ok-x.x in
-    let t = takes l.entities c.as-slice.result.now c.args.object c.args.runner c.args.called x c.in-ok-x.ensures c.as-slice.ensures.value in
+    let x = c.in_ok-x.x in
+    let t = takes l.entities c.as_slice.result.now c.args.object c.args.runner c.args.called x c.in_ok-x.ensures c.as_slice.ensures.value in
     let k = line_kept l x (kept_out l b.kept) t in
     ((b.room.0, b.room.1, b.room.2, b.room.3, omega (arith, c.place.ensures.capacity)), (∣ subst (λ xs. Kept (with_lines l xs)) (sym c.place.ensures.items) k ∣₁, tt))

@@ -18,24 +18,24 @@ fits : (es seen : List Entity) (ks had : List Link) (l u : ℕ) (x : Link) → L
 fits es seen ks had l u x h j e f =
     link_fits es ks x h (judged_link_lem es ks l u x (sym (j ∙ ap (λ s. judged_link s had l u) e ∙ ap (λ s. judged_link es s l u) f)))
 
-pub judge-link-requires : goal.judge-link-requires
-judge-link-requires c =
+pub judge_link-requires : goal.judge_link-requires
+judge_link-requires c =
     let l = lists_of c.args.self.now in
     let k = kept_out l c.args.self.now.kept in
     record {
-      few = subst (λ es. length es ≤ 96) (sym c.as-slice.ensures.value) (entities_few l.entities k.entities);
-      linked = subst (λ es. Linked es c.as-slice-2.result.now) (sym c.as-slice.ensures.value) (subst (Linked l.entities) (sym c.as-slice-2.ensures.value) k.links.linked);
+      few = subst (λ es. length es ≤ 96) (sym c.as_slice.ensures.value) (entities_few l.entities k.entities);
+      linked = subst (λ es. Linked es c.as_slice-2.result.now) (sym c.as_slice.ensures.value) (subst (Linked l.entities) (sym c.as_slice-2.ensures.value) k.links.linked);
     }
 
-pub invariant-of-self : goal.invariant-of-self
-invariant-of-self c = (c.args.self.now.room, (c.args.self.now.kept, tt))
+pub invariant_of-self : goal.invariant_of-self
+invariant_of-self c = (c.args.self.now.room, (c.args.self.now.kept, tt))
 
-pub invariant-of-self-2 : goal.invariant-of-self-2
-invariant-of-self-2 c =
+pub invariant_of-self-2 : goal.invariant_of-self-2
+invariant_of-self-2 c =
     let b = c.args.self.now in
     let l = lists_of b in
-    let x = c.in-ok-x.x in
+    let x = c.in_ok-x.x in
     let old = kept_out l b.kept in
-    let f = fits l.entities c.as-slice.result.now l.links c.as-slice-2.result.now c.args.lower c.args.upper x old.links.linked c.in-ok-x.ensures c.as-slice.ensures.value c.as-slice-2.ensures.value in
+    let f = fits l.entities c.as_slice.result.now l.links c.as_slice-2.result.now c.args.lower c.args.upper x old.links.linked c.in_ok-x.ensures c.as_slice.ensures.value c.as_slice-2.ensures.value in
     let k = link_kept l x old f in
     ((b.room.0, omega (arith, c.place.ensures.capacity), b.room.2, b.room.3, b.room.4), (∣ subst (λ xs. Kept (with_links l xs)) (sym c.place.ensures.items) k ∣₁, tt))

@@ -7,8 +7,8 @@ use Rattle.catalogue.proofs.Keeping.{raised_kept}
 use Rattle.book.specs.Meaning.{lists_of}
 use Rattle.book.proofs.books.Book.raise.Goals as goal
 
-pub invariant-of-self : goal.invariant-of-self
-invariant-of-self c =
+pub invariant_of-self : goal.invariant_of-self
+invariant_of-self c =
     let b = c.args.self.now in
     let l = lists_of b in
     let rs = vec_items b.rights in
@@ -24,8 +24,8 @@ returns-in-Some c =
     let e = slice_get_read rs _ c.args.n c.in-Some.r.now refl h.3.0 h.1 in
     ap (λ o. with_rights l (raised_at rs o c.args.n)) (sym e)
 
-pub returns-in-default : goal.returns-in-default
-returns-in-default c =
+pub returns-in_default : goal.returns-in_default
+returns-in_default c =
     let l = lists_of c.args.self.now in
     let rs = vec_items c.args.self.now.rights in
-    ap (λ o. with_rights l (raised_at rs o c.args.n)) (sym (slice_get_past rs c.args.n c.in-default.ensures.item.3))
+    ap (λ o. with_rights l (raised_at rs o c.args.n)) (sym (slice_get_past rs c.args.n c.in_default.ensures.item.3))

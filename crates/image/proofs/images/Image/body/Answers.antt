@@ -2,8 +2,8 @@ use Rattle.std.proofs.Common.{◌∙◌}
 use Rattle.image.proofs.Looking.{reader_laid, reader_body}
 use Rattle.image.proofs.images.Image.body.Goals as goal
 
-pub body-of-requires : goal.body-of-requires
-body-of-requires c = reader_laid c.args.self.now.bytes.now c.requires c.args.list
+pub body_of-requires : goal.body_of-requires
+body_of-requires c = reader_laid c.args.self.now.bytes.now c.requires c.args.list
 
 pub returns : goal.returns
-returns c = record { place = c.body-of.ensures; content = c.body-of.ensures ∙ reader_body c.args.self.now.bytes.now c.requires c.args.list }
+returns c = record { place = c.body_of.ensures; content = c.body_of.ensures ∙ reader_body c.args.self.now.bytes.now c.requires c.args.list }

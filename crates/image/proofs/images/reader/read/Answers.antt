@@ -5,15 +5,15 @@ use Rattle.image.proofs.Counting.{book_kept}
 use Rattle.image.proofs.Looking.{image_reads, image_fails}
 use Rattle.image.proofs.images.reader.read.Goals as goal
 
-pub returns-in-err-built : goal.returns-in-err-built
-returns-in-err-built c =
+pub returns-in_err-built : goal.returns-in_err-built
+returns-in_err-built c =
     let p = err_from_is_err_and c.from-residual.result c.from-residual.ensures.1 in
-    rw (p.1, p.2) (record { image = image_fails _ c.args.bytes.now c.in-err-built.ensures; scratch = c.clear.ensures })
+    rw (p.1, p.2) (record { image = image_fails _ c.args.bytes.now c.in_err-built.ensures; scratch = c.clear.ensures })
 
 pub returns : goal.returns
 returns c =
     let built = c.rebuild-built.new.book in
     record {
-      image = image_reads (record { bytes = c.args.bytes }) (lists_of built) (λ i. omega (arith, c.type-inv.bytes i)) (book_kept built) c.in-ok-built.ensures;
+      image = image_reads (record { bytes = c.args.bytes }) (lists_of built) (λ i. omega (arith, c.type_inv.bytes i)) (book_kept built) c.in_ok-built.ensures;
       scratch = c.clear.ensures;
     }

@@ -8,8 +8,8 @@ returns g c =
     let m = g.C.Catalogue.meaning in
     let a = c.args in
     let old = a.self.now in
-    let new = c.put-member.new.self in
-    let e = c.put-member.ensures in
+    let new = c.put_member.new.self in
+    let e = c.put_member.ensures in
     let l = m old.below in
     let ps = vec_items old.proposals in
     record {

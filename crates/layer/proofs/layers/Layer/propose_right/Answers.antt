@@ -8,8 +8,8 @@ returns g c =
     let m = g.C.Catalogue.meaning in
     let a = c.args in
     let old = a.self.now in
-    let new = c.put-right.new.self in
-    let e = c.put-right.ensures in
+    let new = c.put_right.new.self in
+    let e = c.put_right.ensures in
     let l = m old.below in
     let ps = vec_items old.proposals in
     record {

@@ -7,8 +7,8 @@ pub returns : goal.returns
 returns g c =
     let m = g.C.Catalogue.meaning in
     let old = c.args.self.now in
-    let new = c.drop-latest.new.self in
-    let e = c.drop-latest.ensures in
+    let new = c.drop_latest.new.self in
+    let e = c.drop_latest.ensures in
     let ps = vec_items old.proposals in
     record {
       answer = e.answer;

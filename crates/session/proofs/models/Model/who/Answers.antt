@@ -17,15 +17,15 @@ returns c =
     let a = c.args.account in
     let b0 = told c.empty-base.result.sets in
     let b1 = told c.add.new.self.sets in
-    let b2 = told c.mark-roles.new.row.sets in
-    let b3 = told c.mark-roles-2.new.row.sets in
+    let b2 = told c.mark_roles.new.row.sets in
+    let b3 = told c.mark_roles-2.new.row.sets in
     let row = told c.spread-who.result.sets in
     let who = told c.add-2.new.self.sets in
     let marks : (x : ℕ) → x < 96 → b3 x 0 ≡ ((eqb x 1 || any (in_role_of a x) ms) || any (in_role_of a x) js) =
     λ x h. base_is (b0 x 0) (b1 x 0) (b2 x 0) (b3 x 0) (eqb x 1) (any (in_role_of a x) ms) (any (in_role_of a x) js) (c.empty-base.ensures x 0)
     (c.add.ensures x 0 ∙ ap (λ (z : Bool). b0 x 0 || ((eqb x 1 && true) && z)) (c.full.ensures 0))
-    (c.mark-roles.ensures x 0 h ∙ ap (λ (ns : List Member). b1 x 0 || (any (in_role_of a x) ns && true)) c.as-slice.ensures.value)
-    (c.mark-roles-2.ensures x 0 h) in
+    (c.mark_roles.ensures x 0 h ∙ ap (λ (ns : List Member). b1 x 0 || (any (in_role_of a x) ns && true)) c.as_slice.ensures.value)
+    (c.mark_roles-2.ensures x 0 h) in
     let small : ltb a 96 ≡ true = lt-ltb a 96 c.requires.small in
     let here : (q : ℕ) → who q 0 ≡ (row q 0 || eqb q a) =
     λ q. c.add-2.ensures q 0 ∙ ap (λ (z : Bool). row q 0 || ((eqb q a && ltb a 96) && z)) (c.full-2.ensures 0)

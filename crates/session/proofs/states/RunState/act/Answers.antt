@@ -5,7 +5,7 @@ use Rattle.session.proofs.states.RunState.act.Goals as goal
 
 pub returns-in-Call : goal.returns-in-Call
 returns-in-Call c =
-    let p = c.push-reserved.ensures in
+    let p = c.push_reserved.ensures in
     record {
       state = λ L. entered_more (state_of L c.args.self.now) c.args.account c.args.action c.in-Call.object _ c.in-Call.is
           (before_push _ _ _ _ p.items);
@@ -14,7 +14,7 @@ returns-in-Call c =
 
 pub returns-in-Grant : goal.returns-in-Grant
 returns-in-Grant c =
-    let p = c.push-reserved-in-Grant.ensures in
+    let p = c.push_reserved-in-Grant.ensures in
     record {
       state = λ L. rights_more (state_of L c.args.self.now) c.args.account c.args.action c.in-Grant.right _ c.in-Grant.is
           (before_push _ _ _ _ p.items);
@@ -23,7 +23,7 @@ returns-in-Grant c =
 
 pub returns-in-Join : goal.returns-in-Join
 returns-in-Join c =
-    let p = c.push-reserved-in-Join.ensures in
+    let p = c.push_reserved-in-Join.ensures in
     record {
       state = λ L. members_more (state_of L c.args.self.now) c.args.account c.args.action c.in-Join.member _ c.in-Join.is
           (before_push _ _ _ _ p.items);

@@ -7,7 +7,7 @@ use Rattle.session.proofs.states.RunState.commit.Goals as goal
 
 pub returns-in-Switch : goal.returns-in-Switch
 returns-in-Switch c =
-    let p = c.push-reserved.ensures in
+    let p = c.push_reserved.ensures in
     record {
       state = λ L. acted_more (state_of L c.args.self.now) c.in-Switch.to _ (before_push _ _ _ _ p.items)
           ∙ ap (λ (t : Step). after (state_of L c.args.self.now) t) (sym c.in-Switch.is);
@@ -16,7 +16,7 @@ returns-in-Switch c =
 
 pub returns-in-Plant : goal.returns-in-Plant
 returns-in-Plant c =
-    let p = c.push-reserved-in-Plant.ensures in
+    let p = c.push_reserved-in-Plant.ensures in
     record {
       state = λ L. planted_more (state_of L c.args.self.now) c.in-Plant.line _ (before_push _ _ _ _ p.items)
           ∙ ap (λ (t : Step). after (state_of L c.args.self.now) t) (sym c.in-Plant.is);

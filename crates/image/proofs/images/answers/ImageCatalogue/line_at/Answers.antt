@@ -9,17 +9,17 @@ use Rattle.image.specs.Readers.{image_lists}
 use Rattle.image.proofs.Looking.{record_wide, record_is, line_is}
 use Rattle.image.proofs.images.answers.ImageCatalogue.line_at.Goals as goal
 
-pub returns-then-n-count-of : goal.returns-then-n-count-of
-returns-then-n-count-of c = sym (slice_get_past (image_lists c.args.self.now).lines c.args.n (omega (arith, c.count-of.ensures, c.if-n-count-of.true)))
+pub returns-then-n-count_of : goal.returns-then-n-count_of
+returns-then-n-count_of c = sym (slice_get_past (image_lists c.args.self.now).lines c.args.n (omega (arith, c.count_of.ensures, c.if-n-count_of.true)))
 
-pub line-of-requires : goal.line-of-requires
-line-of-requires c =
-    ap length c.record-at.ensures
-    ∙ record_wide line_bytes (image_lists c.args.self.now).lines c.args.n (omega (arith, c.count-of.ensures, c.if-n-count-of.false)) 7 (λ x. refl)
+pub line_of-requires : goal.line_of-requires
+line_of-requires c =
+    ap length c.record_at.ensures
+    ∙ record_wide line_bytes (image_lists c.args.self.now).lines c.args.n (omega (arith, c.count_of.ensures, c.if-n-count_of.false)) 7 (λ x. refl)
 
 pub returns : goal.returns
 returns c =
     let l = image_lists c.args.self.now in
-    ap Some (c.line-of.ensures ∙ ap line_of c.record-at.ensures)
-    ∙ record_is line_bytes l.lines c.args.n (omega (arith, c.count-of.ensures, c.if-n-count-of.false)) line_of
+    ap Some (c.line_of.ensures ∙ ap line_of c.record_at.ensures)
+    ∙ record_is line_bytes l.lines c.args.n (omega (arith, c.count_of.ensures, c.if-n-count_of.false)) line_of
     (λ x e. line_is l.entities x (entities_few l.entities c.requires.entities) (nth_all (TakesLine l.entities) l.lines c.args.n x e c.requires.lines.fit))

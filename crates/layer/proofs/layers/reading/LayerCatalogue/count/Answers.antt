@@ -7,16 +7,16 @@ use Rattle.layer.proofs.layers.reading.LayerCatalogue.count.Goals as goal
 pub count-requires : goal.count-requires
 count-requires g c = sound_below (g.C.Catalogue.meaning c.args.self.now.below) (vec_items c.args.self.now.proposals) c.requires
 
-pub overflow-add-result : goal.overflow-add-result
-overflow-add-result g c =
+pub overflow_add-result : goal.overflow_add-result
+overflow_add-result g c =
     let l = g.C.Catalogue.meaning c.args.self.now.below in
     let ps = vec_items c.args.self.now.proposals in
-    let n : c.count-own.result ≡ count_of (own ps) c.args.list = c.count-own.ensures ∙ ap (λ qs. count_of (own qs) c.args.list) c.as-slice.ensures.value in
+    let n : c.count_own.result ≡ count_of (own ps) c.args.list = c.count_own.ensures ∙ ap (λ qs. count_of (own qs) c.args.list) c.as_slice.ensures.value in
     omega (arith, n, c.count.ensures, count_over l ps c.args.list, count_few (over l ps) c.args.list c.requires)
 
 pub returns : goal.returns
 returns g c =
     let l = g.C.Catalogue.meaning c.args.self.now.below in
     let ps = vec_items c.args.self.now.proposals in
-    let n : c.count-own.result ≡ count_of (own ps) c.args.list = c.count-own.ensures ∙ ap (λ qs. count_of (own qs) c.args.list) c.as-slice.ensures.value in
+    let n : c.count_own.result ≡ count_of (own ps) c.args.list = c.count_own.ensures ∙ ap (λ qs. count_of (own qs) c.args.list) c.as_slice.ensures.value in
     omega (arith, n, c.count.ensures, count_over l ps c.args.list)
