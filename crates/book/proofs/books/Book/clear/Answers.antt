@@ -1,5 +1,5 @@
 use Rattle.std.proofs.Common.{◌≡◌, vec_items, ◌∙◌, subst, arith}
-use Rattle.access.specs.Lists.{Lists, new_lists}
+use Rattle.access.specs.Lists.{new_lists}
 use Rattle.catalogue.specs.Sound.{Kept}
 use Rattle.catalogue.proofs.Unique.{kept_out}
 use Rattle.catalogue.proofs.Keeping.{new_kept}
@@ -11,10 +11,11 @@ invariant_of-self c =
     let b = c.args.self.now in
     let l = lists_of b in
     let es : vec_items c.truncate.new.self ≡ new_lists.entities = c.truncate.ensures.items ∙ (kept_out l b.kept).entities.first in
-    let same : new_lists ≡ record { entities = vec_items c.truncate.new.self; links = vec_items c.clear.new.self; rights = vec_items c.clear-2.new.self; members = vec_items c.clear-3.new.self; lines = vec_items c.clear-4.new.self } = simp (es, c.clear.ensures.items, c.clear-2.ensures.items, c.clear-3.ensures.items, c.clear-4.ensures.items) in (
-      (omega (arith, c.truncate.ensures.capacity, b.room.0), omega (arith, c.clear.ensures.capacity, b.room.1), omega (arith, c.clear-2.ensures.capacity, b.room.2), omega (arith, c.clear-3.ensures.capacity, b.room.3), omega (arith, c.clear-4.ensures.capacity, b.room.4)),
-      (∣ subst Kept same new_kept ∣₁, tt),
-    )
+    let same : new_lists ≡ record { entities = vec_items c.truncate.new.self; links = vec_items c.clear.new.self; rights = vec_items c.clear-2.new.self; members = vec_items c.clear-3.new.self; lines = vec_items c.clear-4.new.self } = simp (es, c.clear.ensures.items, c.clear-2.ensures.items, c.clear-3.ensures.items, c.clear-4.ensures.items) in
+    record {
+      room = (omega (arith, c.truncate.ensures.capacity, b.room.0), omega (arith, c.clear.ensures.capacity, b.room.1), omega (arith, c.clear-2.ensures.capacity, b.room.2), omega (arith, c.clear-3.ensures.capacity, b.room.3), omega (arith, c.clear-4.ensures.capacity, b.room.4));
+      kept = ∣ subst Kept same new_kept ∣₁;
+    }
 
 pub returns : goal.returns
 returns c =

@@ -30,4 +30,7 @@ invariant_of-self c =
     let x = c.in_ok-x.x in
     let t = takes (vec_items b.entities) c.as_slice.result.now c.args.kind c.args.parent c.args.owner c.args.mode x c.in_ok-x.ensures c.as_slice.ensures.value in
     let k = entity_kept l x (kept_out l b.kept) t in
-    ((omega (arith, b.room.0, c.push_reserved.ensures.capacity), b.room.1, b.room.2, b.room.3, b.room.4), (∣ subst (λ es. Kept (with_entities l es)) (sym c.push_reserved.ensures.items) k ∣₁, tt))
+    record {
+      room = (omega (arith, b.room.0, c.push_reserved.ensures.capacity), b.room.1, b.room.2, b.room.3, b.room.4);
+      kept = ∣ subst (λ es. Kept (with_entities l es)) (sym c.push_reserved.ensures.items) k ∣₁;
+    }

@@ -16,4 +16,7 @@ invariant_of-self c =
     let l = lists_of b in
     let t = judged_member_lem l.entities c.args.account c.args.role c.in_ok-x.x (sym c.in_ok-x.ensures) in
     let k = member_kept l c.in_ok-x.x (kept_out l b.kept) t in
-    ((b.room.0, b.room.1, b.room.2, omega (arith, c.place.ensures.capacity), b.room.4), (∣ subst (λ ms. Kept (with_members l ms)) (sym c.place.ensures.items) k ∣₁, tt))
+    record {
+      room = (b.room.0, b.room.1, b.room.2, omega (arith, c.place.ensures.capacity), b.room.4);
+      kept = ∣ subst (λ ms. Kept (with_members l ms)) (sym c.place.ensures.items) k ∣₁;
+    }

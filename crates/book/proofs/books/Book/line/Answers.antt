@@ -22,4 +22,7 @@ invariant_of-self c =
     let x = c.in_ok-x.x in
     let t = takes l.entities c.as_slice.result.now c.args.object c.args.runner c.args.called x c.in_ok-x.ensures c.as_slice.ensures.value in
     let k = line_kept l x (kept_out l b.kept) t in
-    ((b.room.0, b.room.1, b.room.2, b.room.3, omega (arith, c.place.ensures.capacity)), (∣ subst (λ xs. Kept (with_lines l xs)) (sym c.place.ensures.items) k ∣₁, tt))
+    record {
+      room = (b.room.0, b.room.1, b.room.2, b.room.3, omega (arith, c.place.ensures.capacity));
+      kept = ∣ subst (λ xs. Kept (with_lines l xs)) (sym c.place.ensures.items) k ∣₁;
+    }

@@ -28,7 +28,11 @@ judge_link-requires c =
     }
 
 pub invariant_of-self : goal.invariant_of-self
-invariant_of-self c = (c.args.self.now.room, (c.args.self.now.kept, tt))
+invariant_of-self c =
+    record {
+      room = c.args.self.now.room;
+      kept = c.args.self.now.kept;
+    }
 
 pub invariant_of-self-2 : goal.invariant_of-self-2
 invariant_of-self-2 c =
@@ -38,4 +42,7 @@ invariant_of-self-2 c =
     let old = kept_out l b.kept in
     let f = fits l.entities c.as_slice.result.now l.links c.as_slice-2.result.now c.args.lower c.args.upper x old.links.linked c.in_ok-x.ensures c.as_slice.ensures.value c.as_slice-2.ensures.value in
     let k = link_kept l x old f in
-    ((b.room.0, omega (arith, c.place.ensures.capacity), b.room.2, b.room.3, b.room.4), (∣ subst (λ xs. Kept (with_links l xs)) (sym c.place.ensures.items) k ∣₁, tt))
+    record {
+      room = (b.room.0, omega (arith, c.place.ensures.capacity), b.room.2, b.room.3, b.room.4);
+      kept = ∣ subst (λ xs. Kept (with_links l xs)) (sym c.place.ensures.items) k ∣₁;
+    }

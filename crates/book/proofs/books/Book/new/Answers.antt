@@ -1,5 +1,5 @@
 use Rattle.std.proofs.Common.{◌≡◌, vec_items, subst, arith}
-use Rattle.access.specs.Lists.{Lists, new_lists}
+use Rattle.access.specs.Lists.{new_lists}
 use Rattle.catalogue.specs.Sound.{Kept}
 use Rattle.catalogue.proofs.Keeping.{new_kept}
 use Rattle.book.proofs.books.Book.new.Goals as goal
@@ -16,4 +16,7 @@ invariant_of-result c =
     let three = c.push_reserved-3.ensures in
     let es : vec_items c.push_reserved-3.new.self ≡ new_lists.entities = simp (three.items, two.items, one.items, e.items) in
     let same : new_lists ≡ record { entities = vec_items c.push_reserved-3.new.self; links = vec_items c.in_ok-links.links; rights = vec_items c.in_ok-rights.rights; members = vec_items c.in_ok-members.members; lines = vec_items c.in_ok-lines.lines } = simp (es, l.items, r.items, m.items, n.items) in
-    ((omega (arith, e.capacity, one.capacity, two.capacity, three.capacity), l.capacity, r.capacity, m.capacity, n.capacity), (∣ subst Kept same new_kept ∣₁, tt))
+    record {
+      room = (omega (arith, e.capacity, one.capacity, two.capacity, three.capacity), l.capacity, r.capacity, m.capacity, n.capacity);
+      kept = ∣ subst Kept same new_kept ∣₁;
+    }

@@ -11,4 +11,7 @@ invariant_of-self c =
     let b = c.args.self.now in
     let l = lists_of b in
     let k = right_kept l c.args.x (kept_out l b.kept) c.requires in
-    ((b.room.0, b.room.1, omega (arith, c.place.ensures.capacity), b.room.3, b.room.4), (∣ subst (λ xs. Kept (with_rights l xs)) (sym c.place.ensures.items) k ∣₁, tt))
+    record {
+      room = (b.room.0, b.room.1, omega (arith, c.place.ensures.capacity), b.room.3, b.room.4);
+      kept = ∣ subst (λ xs. Kept (with_rights l xs)) (sym c.place.ensures.items) k ∣₁;
+    }

@@ -1,4 +1,4 @@
-use Rattle.std.proofs.Common.{◌≡◌, vec_items, sym, refl, ap, subst}
+use Rattle.std.proofs.Common.{vec_items, sym, refl, ap, subst}
 use Rattle.std.proofs.lemmas.Option.{slice_get_read, slice_get_past}
 use Rattle.catalogue.specs.Sound.{Kept}
 use Rattle.catalogue.specs.Calls.{with_rights, raised_at}
@@ -14,7 +14,10 @@ invariant_of-self c =
     let rs = vec_items b.rights in
     let h = c.in-Some.ensures.item in
     let e = slice_get_read rs _ c.args.n c.in-Some.r.now refl h.3.0 h.1 in
-    (b.room, (∣ subst (λ o. Kept (with_rights l (raised_at rs o c.args.n))) e (raised_kept l c.args.n (kept_out l b.kept)) ∣₁, tt))
+    record {
+      room = b.room;
+      kept = ∣ subst (λ o. Kept (with_rights l (raised_at rs o c.args.n))) e (raised_kept l c.args.n (kept_out l b.kept)) ∣₁;
+    }
 
 pub returns-in-Some : goal.returns-in-Some
 returns-in-Some c =
