@@ -1,6 +1,6 @@
 -- A judgement that takes a value found no reason against it.
 use Rattle.std.proofs.Common.{◌≡◌, ℕ, Bool, true, false, cond, ◌&&◌, ◌||◌, List, [], ◌∷◌, is_some, is_ok, Some, None, Ok, Err, Option, Result, refl, ap, subst, arith}
-use Rattle.std.specs.List.{AllByRecursion as All}
+use Rattle.std.specs.List.{AllByRecursion}
 use Rattle.std.proofs.lemmas.Bool.{not-false, and_parts, or_parts, false≢true}
 use Rattle.access.specs.declared.entities.Entity.{Entity}
 use Rattle.access.specs.declared.entities.Kind.{Kind}
@@ -23,7 +23,7 @@ module _ {X : Type 0} where
   reason_off true r rest y e = let z : ◌≡◌ {A = ℕ} 0 1 = cc in let no : ⊥ = omega arith in absurd no
   reason_off false r rest y e = (refl, e)
 
-  pub judged_ok : (rows : List Reason) (x y : X) → judged rows x ≡ Ok y → All (λ row. row.0 ≡ false) rows × (x ≡ y)
+  pub judged_ok : (rows : List Reason) (x y : X) → judged rows x ≡ Ok y → AllByRecursion (λ row. row.0 ≡ false) rows × (x ≡ y)
   judged_ok [] x y e = (tt, cc)
   judged_ok (row ∷ rows) x y e =
       let off = reason_off row.0 row.1 (judged rows x) y e in

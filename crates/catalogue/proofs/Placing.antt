@@ -1,6 +1,6 @@
 -- A table stays in order when a record is placed in it or changed in place.
 use Rattle.std.proofs.Common.{◌≡◌, ℕ, zero, suc, ◌≤◌, Bool, true, false, cond, ltb, List, [], ◌∷◌, ◌++◌, length, set, Some, None, Option, Result, sym, refl, ap, ◌∙◌, subst, arith}
-use Rattle.std.specs.List.{slice_get, AllByRecursion as All}
+use Rattle.std.specs.List.{slice_get, AllByRecursion}
 use Rattle.std.specs.Option.{option_map}
 use Rattle.std.proofs.ByRecursion.{All-push, All-set, All-weaker}
 use Rattle.std.proofs.lemmas.List.{length_push}
@@ -8,7 +8,7 @@ use Rattle.std.proofs.lemmas.Bool.{ltb-true, cond_both}
 use Rattle.access.specs.Codes.{Code}
 use Rattle.catalogue.specs.Tables.{position, placed_at, placed, Once}
 
-pub nth_all : {X : Type 0} (P : X → Type 0) (xs : List X) (n : ℕ) (x : X) → slice_get xs n ≡ Some x → All P xs → P x
+pub nth_all : {X : Type 0} (P : X → Type 0) (xs : List X) (n : ℕ) (x : X) → slice_get xs n ≡ Some x → AllByRecursion P xs → P x
 nth_all P [] n x e h = let z : ◌≡◌ {A = ℕ} 0 1 = cc in let no : ⊥ = omega arith in absurd no
 nth_all P (y ∷ ys) zero x e h = let same : y ≡ x = cc in subst P same h.0
 nth_all P (y ∷ ys) (suc n) x e h = nth_all P ys n x e h.1
@@ -34,13 +34,13 @@ module _ {X : Type 0} where
       go None e =
           cond_both (ltb (length xs) limit) _ _ (λ (t : Result ℕ Code × List X). Once alike t.1) (λ _. once_push alike xs x h e) (λ _. h)
 
-  pub placed_all : (P : X → Type 0) (alike : X → X → Bool) (limit : ℕ) (xs : List X) (x : X) → All P xs → P x → All P (placed alike limit xs x).1
+  pub placed_all : (P : X → Type 0) (alike : X → X → Bool) (limit : ℕ) (xs : List X) (x : X) → AllByRecursion P xs → P x → AllByRecursion P (placed alike limit xs x).1
   placed_all P alike limit xs x h p = go (position (λ y. alike y x) xs)
     where
-      go : (o : Option ℕ) → All P (placed_at limit o xs x).1
+      go : (o : Option ℕ) → AllByRecursion P (placed_at limit o xs x).1
       go (Some n) = h
       go None =
-          cond_both (ltb (length xs) limit) _ _ (λ (t : Result ℕ Code × List X). All P t.1) (λ _. All-push P xs x h p) (λ _. h)
+          cond_both (ltb (length xs) limit) _ _ (λ (t : Result ℕ Code × List X). AllByRecursion P t.1) (λ _. All-push P xs x h p) (λ _. h)
 
   pub placed_few : (alike : X → X → Bool) (limit : ℕ) (xs : List X) (x : X) → length xs ≤ limit → length (placed alike limit xs x).1 ≤ limit
   placed_few alike limit xs x h = go (position (λ y. alike y x) xs)

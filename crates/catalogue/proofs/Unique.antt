@@ -4,7 +4,7 @@ use mathlib.Core.Logic.{∥∥₁_elim}
 use native.Mathlib.Bridge.{le_prop}
 use denote.Struct.Props.{props}
 use base.Stored.{Coded-set, coded_list}
-use Rattle.std.specs.List.{AllByRecursion as All}
+use Rattle.std.specs.List.{AllByRecursion}
 use Rattle.access.specs.declared.entities.Entity.{Entity}
 use Rattle.access.specs.declared.roles.Link.{Link}
 use Rattle.access.specs.contracts.entities.Entity.{the_row}
@@ -15,7 +15,7 @@ use Rattle.catalogue.specs.Alike.{same_link, same_right, same_member, same_line}
 use Rattle.catalogue.specs.Sound.{TakesEntity, TakesRight, TakesMember, TakesLine, Declared, LinksStand, Filed, Kept}
 use Rattle.access.proofs.Turns.{turn_prop}
 
-all_prop : {X : Type 0} (P : X → Type 0) → ((x : X) → IsProp (P x)) → (xs : List X) → IsProp (All P xs)
+all_prop : {X : Type 0} (P : X → Type 0) → ((x : X) → IsProp (P x)) → (xs : List X) → IsProp (AllByRecursion P xs)
 all_prop P h [] p q = refl
 all_prop P h (x ∷ xs) p q = λ i. (h x p.0 q.0 i, all_prop P h xs p.1 q.1 i)
 

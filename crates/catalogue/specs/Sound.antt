@@ -1,6 +1,6 @@
 -- Which lists a catalogue may mean, and which a book may hold.
 use Rattle.std.specs.Prelude.{◌≡◌, ℕ, ◌≤◌, Bool, true, false, List, length, take, drop, is_ok, Some}
-use Rattle.std.specs.List.{AllByRecursion as All}
+use Rattle.std.specs.List.{AllByRecursion}
 use Rattle.access.specs.declared.entities.Entity.{Entity}
 use Rattle.access.specs.declared.rights.RightRecord.{RightRecord}
 use Rattle.access.specs.declared.roles.Link.{Link}
@@ -45,12 +45,12 @@ pub record LinksStand (es : List Entity) (links : List Link) : Type 0 where
 
 -- a list of a catalogue: a book would take each record, and there are at most 4,096
 pub record Listed {X : Type 0} (takes : X → Type 0) (xs : List X) : Type 0 where
-  pub fit : All takes xs
+  pub fit : AllByRecursion takes xs
   pub few : length xs ≤ 4096
 
 -- a list of a book: a book takes each record, none stands twice, and there are no more than its limit
 pub record Filed {X : Type 0} (takes : X → Type 0) (alike : X → X → Bool) (limit : ℕ) (xs : List X) : Type 0 where
-  pub fit : All takes xs
+  pub fit : AllByRecursion takes xs
   pub once : Once alike xs
   pub few : length xs ≤ limit
 

@@ -1,6 +1,6 @@
 -- A table of records in the order in which they came, each standing once.
 use Rattle.std.specs.Prelude.{◌≡◌, ℕ, suc, Bool, false, cond, List, [], ◌∷◌, ◌++◌, length, Some, None, Ok, Err, Option, Result, nat_lt}
-use Rattle.std.specs.List.{AllByRecursion as All}
+use Rattle.std.specs.List.{AllByRecursion}
 use Rattle.std.specs.Option.{option_map}
 use Rattle.access.specs.declared.refusals.Refusal.TheVariants.{Full}
 use Rattle.access.specs.Codes.{Code, code}
@@ -22,4 +22,4 @@ module _ {X : Type 0} where
   -- no record is like one that stands before it
   abbrev pub Once : (X → X → Bool) → List X → Type 0
   Once alike [] = Unit {0}
-  Once alike (x ∷ xs) = All (λ y. alike x y ≡ false) xs × Once alike xs
+  Once alike (x ∷ xs) = AllByRecursion (λ y. alike x y ≡ false) xs × Once alike xs

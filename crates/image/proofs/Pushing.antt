@@ -1,6 +1,6 @@
 -- A record that is placed as new stands at the end of its table, and in a book's table each record was placed so.
-use Rattle.std.proofs.Common.{◌≡◌, ℕ, suc, ◌+◌, ◌<◌, ◌≤◌, Bool, true, false, cond, ltb, List, [], ◌∷◌, ◌++◌, length, set, Some, None, Ok, Err, Option, Result, sym, refl, ap, ◌∙◌, subst, arith}
-use Rattle.std.specs.List.{AllByRecursion as All}
+use Rattle.std.proofs.Common.{◌≡◌, ℕ, suc, ◌<◌, ◌≤◌, Bool, true, false, cond, ltb, List, [], ◌∷◌, ◌++◌, length, set, Some, None, Ok, Err, Option, Result, sym, refl, ap, ◌∙◌, subst, arith}
+use Rattle.std.specs.List.{AllByRecursion}
 use Rattle.std.specs.Option.{option_map}
 use Rattle.std.proofs.lemmas.List.{set_at, append_assoc, length-append}
 use Rattle.std.proofs.lemmas.Bool.{eqb-true, lt-ltb, false≢true}
@@ -52,7 +52,7 @@ module _ {X : Type 0} where
 
   -- each record of a table came as new
 
-  all_mid : (P : X → Type 0) (bs : List X) (x : X) (xs : List X) → All P (bs ++ x ∷ xs) → P x
+  all_mid : (P : X → Type 0) (bs : List X) (x : X) (xs : List X) → AllByRecursion P (bs ++ x ∷ xs) → P x
   all_mid P [] x xs h = h.0
   all_mid P (b ∷ bs) x xs h = all_mid P bs x xs h.1
 
@@ -72,7 +72,7 @@ module _ {X : Type 0} where
         came_new alike limit P Q f (before ++ x ∷ []) xs h.1 (subst (Once alike) whole once) (subst (λ ys. length ys ≤ limit) whole few),
       )
 
-  pub all_turns : (P : X → Type 0) (before xs : List X) → All P xs → InTurn (λ _ x. P x) before xs
+  pub all_turns : (P : X → Type 0) (before xs : List X) → AllByRecursion P xs → InTurn (λ _ x. P x) before xs
   all_turns P before [] h = tt
   all_turns P before (x ∷ xs) h = (h.0, all_turns P (before ++ x ∷ []) xs h.1)
 

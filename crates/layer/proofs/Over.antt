@@ -1,6 +1,6 @@
 -- Lists with proposals after them: what stands where, and what the lists below keep.
 use Rattle.std.proofs.Common.{◌≡◌, ℕ, zero, suc, ◌+◌, ◌-◌, ◌<◌, ◌≤◌, List, [], ◌∷◌, ◌++◌, length, refl, ap, ◌∙◌, arith, length-append}
-use Rattle.std.specs.List.{slice_get, AllByRecursion as All}
+use Rattle.std.specs.List.{slice_get, AllByRecursion}
 use Rattle.access.specs.Lists.{Lists}
 use Rattle.catalogue.specs.Counts.{count_of}
 use Rattle.catalogue.specs.declared.names.ListName.{ListName}
@@ -11,11 +11,11 @@ use Rattle.layer.specs.declared.proposals.Proposal.{Proposal}
 use Rattle.layer.specs.Proposals.{over, own, rights_of, members_of}
 
 module _ {X : Type 0} where
-  pub all_front : (P : X → Type 0) (xs ys : List X) → All P (xs ++ ys) → All P xs
+  pub all_front : (P : X → Type 0) (xs ys : List X) → AllByRecursion P (xs ++ ys) → AllByRecursion P xs
   all_front P [] ys h = tt
   all_front P (x ∷ xs) ys h = (h.0, all_front P xs ys h.1)
 
-  pub all_back : (P : X → Type 0) (xs ys : List X) → All P (xs ++ ys) → All P ys
+  pub all_back : (P : X → Type 0) (xs ys : List X) → AllByRecursion P (xs ++ ys) → AllByRecursion P ys
   all_back P [] ys h = h
   all_back P (x ∷ xs) ys h = all_back P xs ys h.1
 

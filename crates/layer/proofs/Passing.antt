@@ -1,6 +1,6 @@
 -- A building call that is passed down to a book keeps the layer's meaning sound: the entities at most grow, and the book stays within its limits.
 use Rattle.std.proofs.Common.{◌≡◌, ◌+◌, ◌≤◌, ◌⊎◌, List, [], ◌∷◌, ◌++◌, length, Some, None, Ok, Err, vec_items, Option, Result, sym, refl, subst, inl, inr, arith, length-append}
-use Rattle.std.specs.List.{AllByRecursion as All}
+use Rattle.std.specs.List.{AllByRecursion}
 use Rattle.std.proofs.ByRecursion.{All-append, All-weaker}
 use Rattle.access.specs.declared.entities.Entity.{Entity}
 use Rattle.access.specs.Codes.{Code}
@@ -15,6 +15,7 @@ use Rattle.book.specs.declared.calls.Call.{Call}
 use Rattle.book.specs.declared.calls.Call.TheVariants as call
 use Rattle.book.specs.Gathered.{called}
 use Rattle.book.specs.declared.books.Book.{Book}
+use Rattle.book.specs.contracts.books.reading.BookCatalogue.TheImpl as book_catalogue
 use Rattle.book.specs.Meaning.{lists_of}
 use Rattle.layer.specs.declared.layers.Layer.{Layer}
 use Rattle.layer.specs.declared.proposals.Proposal.{Proposal}
@@ -49,12 +50,12 @@ called_grown l (call.Line x r y) = unless_grown l _ (judged_line l.entities x r 
 
 -- what a book with these entities takes, one with one more takes
 grown_fit : {X : Type 0} (takes : List Entity → X → Type 0) → ((es : List Entity) (e : Entity) (x : X) → takes es x → takes (es ++ e ∷ []) x)
-    → (es fs : List Entity) (xs : List X) → Grown es fs → All (takes es) xs → All (takes fs) xs
-grown_fit takes stays es fs xs (inl e) h = subst (λ gs. All (takes gs) xs) (sym e) h
-grown_fit takes stays es fs xs (inr (x, e)) h = subst (λ gs. All (takes gs) xs) (sym e) (All-weaker (takes es) (takes (es ++ x ∷ [])) (stays es x) xs h)
+    → (es fs : List Entity) (xs : List X) → Grown es fs → AllByRecursion (takes es) xs → AllByRecursion (takes fs) xs
+grown_fit takes stays es fs xs (inl e) h = subst (λ gs. AllByRecursion (takes gs) xs) (sym e) h
+grown_fit takes stays es fs xs (inr (x, e)) h = subst (λ gs. AllByRecursion (takes gs) xs) (sym e) (All-weaker (takes es) (takes (es ++ x ∷ [])) (stays es x) xs h)
 
 -- a list of a book, and few proposals after it
-listed_over : {X : Type 0} (takes : X → Type 0) (xs ys : List X) → All takes xs → All takes ys → length xs ≤ 256 → length ys ≤ 16 → Listed takes (xs ++ ys)
+listed_over : {X : Type 0} (takes : X → Type 0) (xs ys : List X) → AllByRecursion takes xs → AllByRecursion takes ys → length xs ≤ 256 → length ys ≤ 16 → Listed takes (xs ++ ys)
 listed_over takes xs ys h k few more = record { fit = All-append takes xs ys h k; few = omega (arith, length-append xs ys) }
 
 pub passed_sound : (l m : Lists) (ps : List Proposal) → length ps ≤ 16 → Kept m → Grown l.entities m.entities → Sound (over l ps) → Sound (over m ps)
@@ -65,11 +66,11 @@ passed_sound l m ps few k g s =
     (listed_over (TakesRight m.entities) m.rights (rights_of ps) k.rights.fit (grown_fit TakesRight right_stays l.entities m.entities (rights_of ps) g rights) k.rights.few (omega (arith, picked_few right_in ps)))
     (listed_over (TakesMember m.entities) m.members (members_of ps) k.members.fit (grown_fit TakesMember member_stays l.entities m.entities (members_of ps) g members) (omega (arith, k.members.few)) (omega (arith, picked_few member_in ps)))
 
-few_proposals : (y : Layer Book) → length (vec_items y.proposals) ≤ 16
+few_proposals : (y : Layer Book book_catalogue.ghosts) → length (vec_items y.proposals) ≤ 16
 few_proposals y = omega (arith, y.few, y.proposals.ok.0)
 
 -- a layer whose book is the one after a call
-pub built_sound : (y : Layer Book) (b : Book) (c : Call) → lists_of b ≡ (called (lists_of y.below) c).lists → Sound (meant (stand_of y))
+pub built_sound : (y : Layer Book book_catalogue.ghosts) (b : Book) (c : Call) → lists_of b ≡ (called (lists_of y.below) c).lists → Sound (meant (stand_of y))
     → Sound (over (lists_of b) (vec_items y.proposals))
 built_sound y b c e s =
     let l = lists_of y.below in

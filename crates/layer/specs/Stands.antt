@@ -2,6 +2,7 @@
 use Rattle.std.specs.Prelude.{List, [], vec_items}
 use Rattle.access.specs.Lists.{Lists, new_lists}
 use Rattle.book.specs.declared.books.Book.{Book}
+use Rattle.book.specs.contracts.books.reading.BookCatalogue.TheImpl as book_catalogue
 use Rattle.book.specs.Meaning.{lists_of}
 use Rattle.layer.specs.declared.layers.Layer.{Layer}
 use Rattle.layer.specs.declared.proposals.Proposal.{Proposal}
@@ -11,7 +12,7 @@ pub record Stand : Type 0 where
   pub lists : Lists
   pub proposals : List Proposal
 
-abbrev pub stand_of : Layer Book → Stand
+abbrev pub stand_of : Layer Book book_catalogue.ghosts → Stand
 stand_of y = record { lists = lists_of y.below; proposals = vec_items y.proposals }
 
 abbrev pub meant : Stand → Lists

@@ -46,7 +46,7 @@ impl Proposed for Member {
 
 // How many records of the kind are proposed.
 fn count_proposed<T: Proposed + Drop>(proposals: &[Proposal]) -> usize
-    ensures { result ≡ length (picked held proposals.now) }
+    ensures { result ≡ length (picked T.held proposals.now) }
 {
     let mut n: usize = 0;
     for p in proposals {
@@ -70,7 +70,7 @@ pub(crate) fn count_own(proposals: &[Proposal], list: ListName) -> usize
 
 // The record of number `n` among those of the kind that are proposed.
 fn nth_proposed<T: Proposed + Drop>(proposals: &[Proposal], n: usize) -> Option<T>
-    ensures { result ≡ slice_get (picked held proposals.now) n }
+    ensures { result ≡ slice_get (picked T.held proposals.now) n }
 {
     let mut left = n;
     for p in proposals {
@@ -91,7 +91,7 @@ pub(crate) fn record_over<T: Proposed + Drop>(
     proposals: &[Proposal],
     n: usize,
 ) -> Option<T>
-    ensures { (xs : List T) → found ≡ slice_get xs n → count ≡ length xs → result ≡ slice_get (xs ++ picked held proposals.now) n }
+    ensures { (xs : List T) → found ≡ slice_get xs n → count ≡ length xs → result ≡ slice_get (xs ++ picked T.held proposals.now) n }
 {
     if n < count {
         return found;

@@ -14,11 +14,10 @@ use Rattle.access.specs.declared.code.Line.{Line}
 use Rattle.access.specs.Lists.{◌∈◌, Lists}
 use Rattle.catalogue.specs.Sound.{Sound}
 use Rattle.runs.specs.declared.steps.Step.{Step}
-use Rattle.runs.specs.declared.steps.Step.TheVariants.{Grant, Join, Call}
 use Rattle.runs.specs.Standing.{Is, Stands, Proper, a_call, a_grant, a_join}
 use Rattle.runs.specs.States.{State, Sub, Part, start, pair, acting, planting, done}
 use Rattle.runs.specs.Rights.{Holds, MayGrant}
-use Rattle.runs.specs.Runs.{worker, Lends, the_caller, an_account, MayDo, by_right, by_owner, by_grant, by_alter, LineStands, in_catalogue, planted, Allowed, switch, grant, join, plant, call, follow, after, Run, ends, goes}
+use Rattle.runs.specs.Runs.{worker, Lends, the_caller, an_account, MayDo, by_right, by_owner, by_grant, by_alter, LineStands, in_catalogue, Allowed, switch, grant, join, plant, call, follow, after, Run, ends, goes}
 use Rattle.runs.specs.Saturated.{Plantable, Rule, Closed}
 use Rattle.runs.specs.Laws.{Covers, SaturationCovers}
 use Rattle.runs.proofs.Grounds.{IsCall, to, calls}

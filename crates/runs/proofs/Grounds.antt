@@ -1,7 +1,7 @@
 -- What the laws of runs need of a catalogue, from its soundness.
 use Rattle.std.proofs.Common.{◌≡◌, ℕ, zero, suc, ◌-◌, ◌<◌, ◌≤◌, Bool, true, ◌&&◌, eqb, ◌⊎◌, List, [], ◌∷◌, ◌++◌, length, is_some, is_ok, Some, None, Ok, Err, Option, Result, sym, refl, ap, ◌∙◌, subst, inl, inr, ⊎_elim, arith}
 use mathlib.Core.List.Memᴰ
-use Rattle.std.specs.List.{slice_get, AllByRecursion as All}
+use Rattle.std.specs.List.{slice_get, AllByRecursion}
 use Rattle.std.proofs.lemmas.Bool.{eqb-true, not-false, and_parts, false≢true}
 use Rattle.access.specs.declared.entities.Kind.{Kind}
 use Rattle.access.specs.declared.entities.Kind.TheVariants as kind
@@ -183,7 +183,7 @@ module _ (L : Lists) where
   call_is (action.Grant g) h = absurd (false≢true h)
   call_is (action.Join m) h = absurd (false≢true h)
 
-pub all_in : {X : Type 0} (P : X → Type 0) (xs : List X) (x : X) → All P xs → x ∈ xs → P x
+pub all_in : {X : Type 0} (P : X → Type 0) (xs : List X) (x : X) → AllByRecursion P xs → x ∈ xs → P x
 all_in P [] x h m = elim m [ ]
 all_in P (y ∷ ys) x h (Memᴰ.head e) = subst P (sym e) h.0
 all_in P (y ∷ ys) x h (Memᴰ.tail m) = all_in P ys x h.1 m

@@ -18,7 +18,7 @@ use Rattle.runs.specs.declared.steps.Step.TheVariants.{Switch, Grant, Join, Plan
 use Rattle.runs.specs.Standing.{Is, IsObject, OneOwner, a_role, Proper, a_call, a_grant, a_join}
 use Rattle.runs.specs.States.{State, Part, start, pair, acting, planting, done}
 use Rattle.runs.specs.Rights.{right_record, member_record, Holds}
-use Rattle.runs.specs.Runs.{worker, Lends, by_owner, by_grant, LineStands, in_catalogue, planted, Allowed, switch, grant, join, plant, call, follow, after, Run, ends, goes}
+use Rattle.runs.specs.Runs.{worker, Lends, by_owner, by_grant, LineStands, in_catalogue, Allowed, switch, grant, join, plant, call, follow, after, Run, ends, goes}
 use Rattle.runs.specs.Saturated.{Plantable, Realized, Rule}
 use Rattle.runs.specs.Laws.{Covers, SaturationTells, RulesAreSteps}
 use Rattle.runs.proofs.Grounds.{is_stands, role_is, public_role, IsCall, to, IsRunner, calls, runners}

@@ -8,7 +8,7 @@ use Rattle.image.proofs.bodies.read_bodies.Goals as goal
 
 pub returns-in_err-read_body : goal.returns-in_err-read_body
 returns-in_err-read_body c =
-    let p = err_from_is_err_and c.from-residual.result c.from-residual.ensures.1 in
+    let p = err_from_is_err_and c.from_residual.result c.from_residual.ensures.1 in
     rw (p.1, p.2) (parts_off c.args.bytes.now in_order c.loop-list.list-index Entities (lists_of c.loop-list.book) (omega arith) _ c.in_err-read_body.ensures ∙ c.loop-list.invariant)
 
 pub loop-list-preserved : goal.loop-list-preserved

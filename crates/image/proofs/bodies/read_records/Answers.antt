@@ -11,11 +11,11 @@ split_at-requires c =
     omega (arith, left_one c.args.list c.loop-k.k c.args.count c.loop-k-test.true, c.loop-k.invariant.1, c.width_of-width.ensures.value)
 
 pub call_of-requires : goal.call_of-requires
-call_of-requires c = c.split_at.ensures.front-len ∙ c.width_of-width.ensures.value
+call_of-requires c = c.split_at.ensures.front_len ∙ c.width_of-width.ensures.value
 
 pub returns-in_err-check_new : goal.returns-in_err-check_new
 returns-in_err-check_new c =
-    let p = err_from_is_err_and c.from-residual.result c.from-residual.ensures.1 in
+    let p = err_from_is_err_and c.from_residual.result c.from_residual.ensures.1 in
     let l = lists_of c.loop-k.book in
     let list = c.args.list in
     let rest = c.loop-k.rest.now in

@@ -14,12 +14,12 @@ read_bodies-requires c = laid c.args.bytes.now (contents_good c.args.bytes.now _
 
 pub returns-in_err-contents_end : goal.returns-in_err-contents_end
 returns-in_err-contents_end c =
-    let p = err_from_is_err_and c.from-residual.result c.from-residual.ensures.1 in
+    let p = err_from_is_err_and c.from_residual.result c.from_residual.ensures.1 in
     rw (p.1, p.2) (read_contents c.args.bytes.now _ c.in_err-contents_end.ensures)
 
 pub returns-in_err-check_firsts : goal.returns-in_err-check_firsts
 returns-in_err-check_firsts c =
-    let p = err_from_is_err_and c.from-residual-in_err-check_firsts.result c.from-residual-in_err-check_firsts.ensures.1 in
+    let p = err_from_is_err_and c.from_residual-in_err-check_firsts.result c.from_residual-in_err-check_firsts.ensures.1 in
     rw (p.1, p.2) (read_firsts c.args.bytes.now _ _ c.in_ok-contents_end.ensures c.in_err-check_firsts.ensures)
 
 pub returns : goal.returns

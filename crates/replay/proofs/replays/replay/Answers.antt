@@ -10,7 +10,7 @@ use Rattle.replay.proofs.replays.replay.Goals as goal
 
 pub returns-in_err-right : goal.returns-in_err-right
 returns-in_err-right g c =
-    let p = err_from_is_err_and c.from-residual.result c.from-residual.ensures.1 in
+    let p = err_from_is_err_and c.from_residual.result c.from_residual.ensures.1 in
     let es = ap (λ (xs : List Entity). judged_question xs c.args.account c.args.sense c.args.entity c.args.right) (c.entities.ensures ∙ ap (λ (L : Lists). L.entities) c.load.ensures.lists) in
     rw (p.1, p.2) (declined (sym (c.in_err-right.ensures ∙ es)))
 

@@ -7,7 +7,7 @@ use Rattle.image.proofs.images.reader.read.Goals as goal
 
 pub returns-in_err-built : goal.returns-in_err-built
 returns-in_err-built c =
-    let p = err_from_is_err_and c.from-residual.result c.from-residual.ensures.1 in
+    let p = err_from_is_err_and c.from_residual.result c.from_residual.ensures.1 in
     rw (p.1, p.2) (record { image = image_fails _ c.args.bytes.now c.in_err-built.ensures; scratch = c.clear.ensures })
 
 pub returns : goal.returns
