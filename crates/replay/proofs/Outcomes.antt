@@ -8,7 +8,7 @@ use Rattle.access.specs.Codes.{Code, code}
 use Rattle.access.specs.Lists.{Lists}
 use Rattle.runs.specs.declared.steps.Step.{Step}
 use Rattle.runs.specs.States.{State, start}
-use Rattle.runs.specs.Runs.{Allowed, after, Run, ends, goes}
+use Rattle.runs.specs.Runs.{Allowed, Run, ends, goes}
 use Rattle.replay.specs.Replays.{Stops, Comes, Ends, stopped, missing, accepted, Replays, declined, too_many, asked}
 use Rattle.replay.specs.Laws.{OneOutcome, AcceptsRuns, Accepted}
 use Rattle.replay.proofs.Playing.{run_same}

@@ -2,6 +2,7 @@
 use access::{Action, Event, Line, Member, Object, ObjectNumbers, Right, RightRecord, Runner};
 use book::Book;
 use runs::Step;
+use std::process::Abort;
 use std::test::*;
 
 const PROCEDURE_7: ObjectNumbers = ObjectNumbers {
@@ -73,16 +74,16 @@ pub fn follow(caller: u8, line: Line) -> Step {
 }
 
 // The laboratory without rights: accounts 3, 4 and 8, and table 6 and procedure 7 in container 5 of account 3.
-pub fn laboratory(rt: &HostRuntime) -> Result<Book, Fail> {
+pub fn laboratory(rt: &(impl Abort + AllocGlobal)) -> Result<Book, Fail> {
     let mut book = Book::new(rt.alloc())?;
-    assert!(book.declare(3, 0, 3, 0).is_ok());
-    assert!(book.declare(3, 0, 4, 0).is_ok());
-    assert!(book.declare(0, 0, 3, 1).is_ok());
-    assert!(book.declare(1, 5, 3, 0).is_ok());
-    assert!(book.declare(2, 5, 3, 0).is_ok());
-    assert!(book.declare(3, 0, 8, 0).is_ok());
-    assert!(book.line(PROCEDURE_7, 3, INSERT_TRIGGERS_OF_6).is_ok());
-    assert!(book.grant(4, 7, 5, 0).is_ok());
-    assert!(book.grant(8, 4, 6, 0).is_ok());
+    assert!(rt; book.declare(3, 0, 3, 0).is_ok());
+    assert!(rt; book.declare(3, 0, 4, 0).is_ok());
+    assert!(rt; book.declare(0, 0, 3, 1).is_ok());
+    assert!(rt; book.declare(1, 5, 3, 0).is_ok());
+    assert!(rt; book.declare(2, 5, 3, 0).is_ok());
+    assert!(rt; book.declare(3, 0, 8, 0).is_ok());
+    assert!(rt; book.line(PROCEDURE_7, 3, INSERT_TRIGGERS_OF_6).is_ok());
+    assert!(rt; book.grant(4, 7, 5, 0).is_ok());
+    assert!(rt; book.grant(8, 4, 6, 0).is_ok());
     Ok(book)
 }

@@ -7,6 +7,7 @@ use book::Book;
 use replay::replay;
 use runs::Step;
 use session::Workspace;
+use std::process::Abort;
 use std::test::*;
 
 const USE: u8 = 0;
@@ -62,7 +63,7 @@ fn agrees(res: Result<(), Refusal>, expected: Expected) -> bool {
 }
 
 fn ends(
-    rt: &HostRuntime,
+    rt: &(impl Abort + AllocGlobal),
     book: &Book,
     q: Question,
     steps: &[Step],
@@ -70,24 +71,26 @@ fn ends(
 ) -> Result<(), Fail> {
     let mut workspace = Workspace::new(rt.alloc())?;
     book.sound();
-    assert!(agrees(
-        replay(
-            &mut workspace,
-            book,
-            q.account,
-            q.sense,
-            q.entity,
-            q.right,
-            steps,
-        ),
-        expected,
-    ));
+    assert!(rt;
+        agrees(
+            replay(
+                &mut workspace,
+                book,
+                q.account,
+                q.sense,
+                q.entity,
+                q.right,
+                steps,
+            ),
+            expected,
+        )
+    );
     Ok(())
 }
 
 // The same for a list of one step.
 fn alone(
-    rt: &HostRuntime,
+    rt: &(impl Abort + AllocGlobal),
     book: &Book,
     q: Question,
     step: Step,
@@ -97,9 +100,14 @@ fn alone(
 }
 
 // In the laboratory with the right to alter the table: the steps, with one in place of one of them.
-fn damaged(rt: &HostRuntime, at: usize, step: Step, expected: Expected) -> Result<(), Fail> {
+fn damaged(
+    rt: &(impl Abort + AllocGlobal),
+    at: usize,
+    step: Step,
+    expected: Expected,
+) -> Result<(), Fail> {
     let mut book = laboratory(rt)?;
-    assert!(book.grant(4, 6, ALTER, 0).is_ok());
+    assert!(rt; book.grant(4, 6, ALTER, 0).is_ok());
     let line = trap(Runner::Caller, 4, false);
     let mut steps = [
         call(4, Object::Procedure(7)),
@@ -329,13 +337,13 @@ fn one_owner_is_of_the_two_objects(rt: HostRuntime) -> Result<(), Fail> {
 }
 
 // Role 9 below role 10, both of account 4; the lower has alter on the table, the upper on the procedure.
-fn two_roles(rt: &HostRuntime) -> Result<Book, Fail> {
+fn two_roles(rt: &(impl Abort + AllocGlobal)) -> Result<Book, Fail> {
     let mut book = laboratory(rt)?;
-    assert!(book.declare(4, 0, 4, 0).is_ok());
-    assert!(book.declare(4, 0, 4, 0).is_ok());
-    assert!(book.link(9, 10).is_ok());
-    assert!(book.grant(9, 6, ALTER, 0).is_ok());
-    assert!(book.grant(10, 7, ALTER, 0).is_ok());
+    assert!(rt; book.declare(4, 0, 4, 0).is_ok());
+    assert!(rt; book.declare(4, 0, 4, 0).is_ok());
+    assert!(rt; book.link(9, 10).is_ok());
+    assert!(rt; book.grant(9, 6, ALTER, 0).is_ok());
+    assert!(rt; book.grant(10, 7, ALTER, 0).is_ok());
     Ok(book)
 }
 
