@@ -45,6 +45,9 @@ def goals():
 # A word of an older library in a lemma's name.
 WORDS = {"byte-getD": "byte-get_or"}
 
+# Names that imports and `let`s give.
+LOCAL = {"workerOf": "worker_of", "afterAction": "after_action", "fitsAt": "fits_at", "fits-a": "fits_a", "zero-k": "zero_k"}
+
 
 def respelled(name):
     name = WORDS.get(name, name)
@@ -75,7 +78,7 @@ def names():
         others = {new} | {other for other in found if found[other] == new and other != name}
         if any(name in here and others & here for here in tokens) or len(others) > 1:
             found[name] = new + "_lem"
-    return found
+    return found | LOCAL
 
 
 def turned(body, table):

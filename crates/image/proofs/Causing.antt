@@ -88,9 +88,9 @@ module _ (bytes : List ℕ) (c : Code) (end : ℕ) (good : contents_end bytes �
         let off = test_err (same_at bytes (20 + k * 4) (entity_bytes x)) tt (fault 1 k) c h in
         other end before es x good whole e (ap (λ i. same_at bytes (20 + i * 4) (entity_bytes x)) (sym n) ∙ off.0) (off.1 ∙ ap (fault 1) n)
     | inr (u, h) ↦
-        let zero-k : 0 + length before ≡ k = omega arith in
+        let zero_k : 0 + length before ≡ k = omega arith in
         firsts_cause (before ++ x ∷ []) es (k + 1) (omega (arith, length_push before x)) (whole ∙ sym (append_assoc before (x ∷ []) es))
-        (firsts_push bytes 0 before x e (ap (λ i. first_at bytes i x) zero-k ∙ h.0)) h.1
+        (firsts_push bytes 0 before x e (ap (λ i. first_at bytes i x) zero_k ∙ h.0)) h.1
   ]
 
 -- The bodies

@@ -56,8 +56,8 @@ module _ (start : List ℕ) (place : ℕ) (whole room : List ℕ) (at : ℕ) whe
   left_more left a b after n h e w end =
       let long : length left ≡ length a + length b = ap length e ∙ length-append a b in
       let room_in : at ≤ length room = omega (arith, h.fits) in
-      let fits-a : at + length a ≤ length room = omega (arith, h.fits) in
-      let kept : length after ≡ length room = ap length w ∙ written_length room at a fits-a in
+      let fits_a : at + length a ≤ length room = omega (arith, h.fits) in
+      let kept : length after ≡ length room = ap length w ∙ written_length room at a fits_a in
       record {
         same = ap (λ r. written r n b) w ∙ written_more room at a b n end room_in ∙ ap (written room at) (sym e) ∙ h.same;
         end = omega (arith, h.end);

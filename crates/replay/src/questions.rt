@@ -1,7 +1,7 @@
 // Which right a question asks for, or why it is declined.
 ghost use Rattle.std.specs.Prelude.{◌≡◌};
 ghost use Rattle.access.specs.Codes.{coded};
-ghost use Rattle.access.specs.Lists.{fits as fitsAt, is_account};
+ghost use Rattle.access.specs.Lists.{fits as fits_at, is_account};
 ghost use Rattle.replay.specs.Replays.{question_listed, judged_question};
 
 use access::{Entity, Kind, Refusal, Right};
@@ -17,7 +17,7 @@ fn question_listed(entities: &[Entity], account: u8, sense: u8, entity: u8, righ
 }
 
 fn account_at(entities: &[Entity], n: u8) -> bool
-    ensures { result ≡ fitsAt is_account entities.now n }
+    ensures { result ≡ fits_at is_account entities.now n }
 {
     match record_at(entities, n as usize) {
         Some(e) => matches!(e.kind, Kind::Account),

@@ -1,8 +1,8 @@
 // How the state of a run begins, and what each step adds to it.
 ghost use Rattle.std.specs.Prelude.{◌≡◌, ℕ, ◌+◌};
 ghost use Rattle.access.specs.Lists.{Lists};
-ghost use Rattle.runs.specs.States.{start as opened, done as afterAction};
-ghost use Rattle.runs.specs.Runs.{after, worker as workerOf};
+ghost use Rattle.runs.specs.States.{start as opened, done as after_action};
+ghost use Rattle.runs.specs.Runs.{after, worker as worker_of};
 ghost use Rattle.session.specs.Reached.{state_of, Filled};
 
 use crate::states::RunState;
@@ -12,7 +12,7 @@ use std::alloc::{AllocError, Global};
 
 // The account that a line runs under, when `caller` entered its object.
 pub fn worker(runner: Runner, caller: u8) -> u8
-    ensures { result ≡ workerOf runner caller }
+    ensures { result ≡ worker_of runner caller }
 {
     match runner {
         Runner::Caller => caller,
@@ -53,7 +53,7 @@ impl RunState {
     // Adds what an account's action adds.
     fn act(&mut self, account: u8, action: Action)
         requires { Filled self.old 4095 }
-        ensures state { (L : Lists) → state_of L self.new ≡ afterAction (state_of L self.old) account action }
+        ensures state { (L : Lists) → state_of L self.new ≡ after_action (state_of L self.old) account action }
         ensures few { (n : ℕ) → Filled self.old n → Filled self.new (n + 1) }
     {
         match action {
