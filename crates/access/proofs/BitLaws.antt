@@ -1,8 +1,9 @@
 -- Laws of `bit`. Assumes nothing.
-use Rattle.std.proofs.Common.{◌≡◌, ℕ, zero, suc, ◌+◌, ◌-◌, ◌/◌, ◌%◌, ◌^◌, ◌<◌, ◌||◌, eqb, ◌⊎◌, sym, ap, ◌∙◌, inl, inr, ⊎_elim, arith}
+use Rattle.std.proofs.Common.{◌≡◌, ℕ, zero, suc, ◌+◌, ◌-◌, ◌*◌, ◌/◌, ◌%◌, ◌^◌, ◌<◌, ◌||◌, eqb, ◌⊎◌, sym, ap, ◌∙◌, inl, inr, ⊎_elim, arith}
 use native.Mathlib.Nat.{two-pow-succ, div-eq_of_lt}
-use lib.Bits.{bit_or}
-use Rattle.std.proofs.lemmas.Nat.{or_shr, or_mod, shr-shr, shl-shr, pow-add, pow_below}
+use lib.Bits.{bit_and, bit_or}
+use Rattle.std.proofs.lemmas.Nat.{one_shl, or_shr, or_mod, shr-shr, shl-shr, pow-add, pow_below}
+use Rattle.std.proofs.lemmas.Nat.Bits.{shr_and_one}
 use Rattle.std.proofs.lemmas.Bool.{eq-eqb, ne_eqb, cases_order}
 use Rattle.std.proofs.lemmas.Bool.Decides.{nat_tests}
 use Rattle.access.specs.Bits.{bit}
@@ -48,6 +49,15 @@ bit_power j k =
     let z : 2 ^ j / 2 ^ k ≡ 0 = div-eq_of_lt (pow_below j k h) in
     ap (λ (x : ℕ). eqb (x % 2) 1) z ∙ sym (ne_eqb k j (omega arith))))
     (cases_order k j)
+
+-- `1 << n` at w bits
+pub bit_shl : (w n k : ℕ) → n < w → bit (1 * 2 ^ n % 2 ^ w) k ≡ eqb k n
+bit_shl w n k h = ap (λ (b : ℕ). bit b k) (one_shl n w h) ∙ bit_power n k
+
+-- the test `(n >> k) & 1`
+pub bit_test : (n k : ℕ) → eqb (bit_and (n / 2 ^ k) 1) 1 ≡ bit n k
+unfolding bit
+bit_test n k = ap (λ (x : ℕ). eqb x 1) (shr_and_one n k)
 
 -- a half has the bits one lower
 half : (n r : ℕ) → bit (n / 2) r ≡ bit n (1 + r)

@@ -1,5 +1,5 @@
 -- What a refusal returns: its number, then its values.
-use Rattle.std.specs.Prelude.{ℕ, List, [], ◌∷◌, Ok, Err, Result}
+use Rattle.std.specs.Prelude.{◌≡◌, ℕ, List, [], ◌∷◌, Ok, Err, Result, Option, Some, None, MatchResult}
 use Rattle.access.specs.declared.refusals.Refusal.{Refusal}
 use Rattle.access.specs.declared.refusals.Refusal.TheVariants.{NotListed, WrongKind, NotGiven, Circular, Full, NoRoom, Unreadable, NotAllowed}
 
@@ -20,3 +20,7 @@ code (NotAllowed step) = 8 ∷ step ∷ []
 abbrev pub coded : {X : Type 0} → Result X Refusal → Result X Code
 coded (Ok x) = Ok x
 coded (Err refusal) = Err (code refusal)
+
+-- what a number names, or the refusal of one that is not listed
+abbrev pub Names : {X : Type 0} → Option X → Result X Refusal → Type 0
+Names named r = MatchResult r (λ x. named ≡ Some x) (λ refusal. (named ≡ None) × (refusal ≡ NotListed))

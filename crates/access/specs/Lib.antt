@@ -5,3 +5,4 @@ pub mod Bits
 pub mod Sets
 pub mod Lists
 pub mod Orders
+pub mod Exact

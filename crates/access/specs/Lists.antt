@@ -29,7 +29,7 @@ public = 1
 abbrev pub sysadmin : ℕ
 sysadmin = 2
 
-abbrev first_entity : Kind → Entity
+abbrev pub first_entity : Kind → Entity
 first_entity k = record { kind = k; parent = 0; owner = sysadmin; mode = Creator }
 
 -- the root container, the role public and the role sysadmin

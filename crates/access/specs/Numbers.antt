@@ -14,7 +14,7 @@ use Rattle.access.specs.declared.code.Runner.{Runner}
 use Rattle.access.specs.declared.code.Runner.TheVariants as runner
 use Rattle.access.specs.declared.code.Object.{Object}
 use Rattle.access.specs.declared.code.Object.TheVariants as object
-use Rattle.access.specs.declared.code.ObjectNumbers.{ObjectNumbers}
+use Rattle.access.specs.declared.numbers.ObjectNumbers.{ObjectNumbers}
 
 -- each list has its cases in the order of their numbers, from 0
 abbrev pub kinds : List Kind

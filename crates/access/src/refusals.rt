@@ -3,7 +3,7 @@ ghost use Rattle.std.specs.Prelude.{◌≡◌, slice_index};
 ghost use Rattle.access.specs.Codes.{code};
 
 // The cases stand in the order in which they are looked for.
-#[derive(Clone, Copy)]
+#[derive(Clone, Copy, Debug, PartialEq, Eq)]
 pub enum Refusal {
     // a number that is not listed for its place, or an entity number that does not stand
     NotListed,
@@ -25,6 +25,7 @@ pub enum Refusal {
 
 impl Refusal {
     // The number of the refusal.
+    // Kept: `From` is no plainer, since the number alone leaves out the values that two of the cases carry.
     pub fn number(self) -> u8
         ensures { result ≡ slice_index (code self) 0 }
     {

@@ -1,8 +1,11 @@
 // What a principal may do with an entity.
 ghost use Rattle.std.specs.Prelude.{◌≡◌, ◌<◌, Some};
+ghost use Rattle.access.specs.Codes.{Names};
 ghost use Rattle.access.specs.Numbers.{right_at, right_number, option_at};
 
-#[derive(Clone, Copy)]
+use crate::refusals::Refusal;
+
+#[derive(Clone, Copy, PartialEq, Eq)]
 pub enum Right {
     Select,
     Insert,
@@ -13,34 +16,36 @@ pub enum Right {
     Impersonate,
 }
 
-impl Right {
-    // The right of a number from 0 to 6.
-    pub fn listed(n: u8) -> Option<Right>
-        ensures { result ≡ right_at n }
-    {
+// The right of a number from 0 to 6.
+impl TryFrom<u8> for Right {
+    type Error = Refusal;
+
+    ghost try_from_gives = { λ n r. Names (right_at n) r };
+
+    fn try_from(n: u8) -> Result<Right, Refusal> {
         match n {
-            0 => Some(Right::Select),
-            1 => Some(Right::Insert),
-            2 => Some(Right::Update),
-            3 => Some(Right::Delete),
-            4 => Some(Right::Alter),
-            5 => Some(Right::Execute),
-            6 => Some(Right::Impersonate),
-            _ => None,
+            0 => Ok(Right::Select),
+            1 => Ok(Right::Insert),
+            2 => Ok(Right::Update),
+            3 => Ok(Right::Delete),
+            4 => Ok(Right::Alter),
+            5 => Ok(Right::Execute),
+            6 => Ok(Right::Impersonate),
+            _ => Err(Refusal::NotListed),
         }
     }
+}
 
-    pub fn number(self) -> u8
-        ensures value { result ≡ right_number self }
-        ensures small { result < 7 }
-        ensures back { right_at result ≡ Some self }
-    {
-        self as u8
+impl From<Right> for u8 {
+    ghost from_gives = { λ x n. (n ≡ right_number x) × (n < 7) × (right_at n ≡ Some x) };
+
+    fn from(x: Right) -> u8 {
+        x as u8
     }
 }
 
 // A principal has a right on an entity; with the option it can grant it on.
-#[derive(Clone, Copy)]
+#[derive(Clone, Copy, PartialEq, Eq)]
 pub struct RightRecord {
     pub principal: u8,
     pub entity: u8,
@@ -49,12 +54,13 @@ pub struct RightRecord {
 }
 
 // The grant option of number 0, without, or 1, with.
-pub fn option_listed(n: u8) -> Option<bool>
-    ensures { result ≡ option_at n }
+// Kept: `TryFrom` wants a type of one's own, and one in place of `bool` is no plainer.
+pub fn option_listed(n: u8) -> Result<bool, Refusal>
+    ensures { Names (option_at n) result }
 {
     match n {
-        0 => Some(false),
-        1 => Some(true),
-        _ => None,
+        0 => Ok(false),
+        1 => Ok(true),
+        _ => Err(Refusal::NotListed),
     }
 }

@@ -3,11 +3,10 @@ ghost use Rattle.std.specs.Prelude.{◌≡◌, ℕ, ◌^◌, ◌<◌, false, ◌
 ghost use Rattle.access.specs.Bits.{bit};
 ghost use Rattle.access.specs.Numbers.{right_number};
 
-use crate::bits::{bit_of, both, has_bit, no_bits, seven_bits};
 use crate::rights::Right;
 
 // A set of rights: bit k stands for the right of number k.
-#[derive(Clone, Copy)]
+#[derive(Clone, Copy, PartialEq, Eq)]
 pub struct RightSet {
     bits: u8,
     ghost small: { bits < 2 ^ 7 },
@@ -17,14 +16,14 @@ impl RightSet {
     pub fn empty() -> Self
         ensures { (k : ℕ) → bit result.bits k ≡ false }
     {
-        RightSet { bits: no_bits() }
+        RightSet { bits: 0 }
     }
 
     // All seven rights.
     pub fn full() -> Self
         ensures { (k : ℕ) → bit result.bits k ≡ nat_lt k 7 }
     {
-        RightSet { bits: seven_bits() }
+        RightSet { bits: 0b111_1111 }
     }
 
     // The set with one right more.
@@ -32,21 +31,21 @@ impl RightSet {
         ensures { (k : ℕ) → bit result.bits k ≡ (bit self.bits k || k == right_number right) }
     {
         RightSet {
-            bits: both(self.bits, bit_of(right.number())),
+            bits: self.bits | 1 << u8::from(right),
         }
     }
 
     pub fn has(self, right: Right) -> bool
         ensures { result ≡ bit self.bits (right_number right) }
     {
-        has_bit(self.bits, right.number())
+        (self.bits >> u8::from(right)) & 1 == 1
     }
 
     pub fn union(self, other: Self) -> Self
         ensures { (k : ℕ) → bit result.bits k ≡ (bit self.bits k || bit other.bits k) }
     {
         RightSet {
-            bits: both(self.bits, other.bits),
+            bits: self.bits | other.bits,
         }
     }
 }

@@ -2,4 +2,5 @@
 pub mod codes;
 pub mod entities;
 pub mod names;
+pub mod numbers;
 pub mod records;

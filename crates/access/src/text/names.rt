@@ -43,31 +43,3 @@ impl fmt::Display for Event {
         write!(f, "{right}")
     }
 }
-
-// A number that a call names a kind by; one that is not listed is shown as it is.
-#[derive(Clone, Copy)]
-pub struct KindNumber(pub u8);
-
-impl fmt::Display for KindNumber {
-    fn fmt<W: fmt::Write>(&self, f: &mut fmt::Formatter<W>) -> fmt::Result {
-        let n = self.0;
-        match Kind::listed(n) {
-            Some(kind) => write!(f, "{kind}"),
-            None => write!(f, "kind {n}"),
-        }
-    }
-}
-
-// The same for a right.
-#[derive(Clone, Copy)]
-pub struct RightNumber(pub u8);
-
-impl fmt::Display for RightNumber {
-    fn fmt<W: fmt::Write>(&self, f: &mut fmt::Formatter<W>) -> fmt::Result {
-        let n = self.0;
-        match Right::listed(n) {
-            Some(right) => write!(f, "{right}"),
-            None => write!(f, "right {n}"),
-        }
-    }
-}

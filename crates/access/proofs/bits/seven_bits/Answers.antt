@@ -1,6 +1,0 @@
-use Rattle.std.proofs.Common.{lit<}
-use Rattle.access.proofs.SetLaws.{bit_full}
-use Rattle.access.proofs.bits.seven_bits.Goals as goal
-
-pub returns : goal.returns
-returns c = record { small = lit< tt; bits = bit_full }
