@@ -1,7 +1,6 @@
-pub mod BitTests
+pub mod TakenLaws
 pub mod SetRows
 pub mod SpreadLaws
 pub mod RoleLaws
 pub mod RowLaws
-pub mod StartLaws
 pub mod TreeLaws

@@ -1,8 +1,13 @@
 -- Laws of the order of roles: the test is the relation, and links that close no circle give an order.
-use Rattle.std.proofs.Common.{◌≡◌, ℕ, Bool, true, ◌&&◌, ◌||◌, eqb, ◌⊎◌, List, [], ◌∷◌, ◌++◌, Decides, sym, refl, ap, ◌∙◌, subst, inl, inr, ⊎_elim, append_assoc, append-nil}
+use Rattle.std.proofs.Common.{◌+◌, ◌<◌, ◌≤◌, length, get_or, drop, ◌≡◌, ℕ, Bool, true, false, ◌&&◌, ◌||◌, eqb, ◌⊎◌, List, [], ◌∷◌, ◌++◌, Decides, sym, refl, ap, ◌∙◌, subst, inl, inr, ⊎_elim, append_assoc, append-nil, arith}
 use mathlib.Core.List.Memᴰ
 use mathlib.Core.List.{Memᴰ}
-use Rattle.std.proofs.lemmas.Bool.Decides.{Decides-like, Decides-and, Decides-or, Decides-eqb}
+use Rattle.std.proofs.lemmas.List.{drop_more, at_drop_all}
+use Rattle.std.proofs.lemmas.Bool.Decides.{Decides-at, Decides-like, Decides-and, Decides-or, Decides-eqb, nat_tests}
+use denote.Enum.Bare.{sameb}
+use Rattle.access.specs.contracts.entities.Kind.{the_type}
+use Rattle.access.specs.declared.entities.Kind.{Kind}
+use Rattle.access.specs.declared.entities.Kind.TheVariants.{Container, Table, Procedure, Account, Role}
 use Rattle.access.specs.Lists.{◌∈◌, fits, is_role, sysadmin}
 use Rattle.access.specs.Orders.{RoleBelow, joined_by, unlinked, role_below, LinkFits, Linked}
 use Rattle.access.proofs.Turns.{turn_ind}
@@ -12,6 +17,21 @@ use Rattle.access.specs.declared.roles.Link.{Link}
 -- the two ends of each link are roles
 abbrev pub RoleEnds : List Entity → List Link → Type 0
 RoleEnds es links = (k : Link) → k ∈ links → (fits is_role es k.lower ≡ true) × (fits is_role es k.upper ≡ true)
+
+-- the test of a kind, as code writes it
+pub role_same : (k : Kind) → sameb the_type k Role ≡ is_role k
+role_same Container = refl
+role_same Table = refl
+role_same Procedure = refl
+role_same Account = refl
+role_same Role = refl
+
+-- a role with no links is at or below itself and sysadmin
+pub role_alone : (es : List Entity) (k x y : ℕ) (s : Bool) → fits is_role es x ≡ true → s ≡ eqb y sysadmin → k ≡ x → (eqb y x || s) ≡ unlinked es k y
+role_alone es k x y s r e q = grind (arith, nat_tests)
+
+pub no_role : (es : List Entity) (k y : ℕ) → fits is_role es k ≡ false → unlinked es k y ≡ false
+no_role es k y e = ap (λ b. b && (eqb k y || eqb y sysadmin)) e
 
 -- one link more, put in last
 pub joined_by_push : (b : ℕ → ℕ → Bool) (ks : List Link) (k : Link) (x y : ℕ)
@@ -25,6 +45,13 @@ joined_by_same b c [] e x y = e x y
 joined_by_same b c (k ∷ ks) e x y =
     joined_by_same _ _ ks (λ x y. ap (λ t. t || (b x k.lower && b k.upper y)) (e x y)
     ∙ ap (λ t. c x y || (t && b k.upper y)) (e x k.lower) ∙ ap (λ t. c x y || (c x k.lower && t)) (e k.upper y)) x y
+
+-- the link at i is put in, and the others stay
+pub links_step : (s t : ℕ → ℕ → Bool) (links : List Link) (i : ℕ) (d : Link) → i < length links
+    → ((x y : ℕ) → t x y ≡ (s x y || (s x (get_or links i d).lower && s (get_or links i d).upper y)))
+    → (x y : ℕ) → joined_by t (drop (i + 1) links) x y ≡ joined_by s (drop i links) x y
+links_step s t links i d h rule x y =
+    joined_by_same t _ (drop (i + 1) links) rule x y ∙ sym (ap (λ (ks : List Link). joined_by s ks x y) (drop_more links i d h))
 
 module _ (es : List Entity) where
   -- a role, and where it leads with no links
@@ -135,6 +162,15 @@ role_below_lem es links r = role_more es [] links (unlinked es) (unlinked_below 
 
 pub linked_roles_lem : (es : List Entity) (links : List Link) → Linked es links → RoleEnds es links
 linked_roles_lem es links t = turn_ind (LinkFits es) (RoleEnds es) (ends_push es) [] links (ends_none es) t
+
+-- no link is left to be put in
+module _ (es : List Entity) (links : List Link) (t : ℕ → ℕ → Bool) (i : ℕ) (l : length links ≤ i)
+    (left : (x y : ℕ) → joined_by t (drop i links) x y ≡ role_below es links x y) where
+  pub role_table : (x y : ℕ) → t x y ≡ role_below es links x y
+  role_table x y = sym (at_drop_all (λ (ks : List Link). joined_by t ks x y) links i l) ∙ left x y
+
+  pub role_exact : Linked es links → (x y : ℕ) → Decides (t x y) (RoleBelow es links x y)
+  role_exact k x y = Decides-at _ _ (role_table x y) (role_below_lem es links (linked_roles_lem es links k) x y)
 
 -- links that close no circle leave no two roles below each other
 pub role_antisymmetric : (es : List Entity) (links : List Link) → Linked es links → (x y : ℕ) → RoleBelow es links x y → RoleBelow es links y x → x ≡ y

@@ -1,52 +1,46 @@
 -- Laws of rows of sets of rights.
-use Rattle.std.proofs.Common.{◌≡◌, ℕ, zero, suc, ◌<◌, ◌≤◌, Bool, false, ◌&&◌, ◌||◌, eqb, ltb, List, [], ◌∷◌, length, get_or, set, replicate, sym, refl, ap, ◌∙◌, ⊎_elim, arith}
+use Rattle.std.proofs.Common.{◌≡◌, ℕ, zero, suc, ◌<◌, Bool, true, false, ◌&&◌, ◌||◌, eqb, ltb, List, [], ◌∷◌, length, get_or, set, replicate, sym, refl, ap, lit<, ◌∙◌, ⊎_elim, arith}
 use mathlib.Core.Bool.{or-false}
-use Rattle.std.proofs.lemmas.Bool.{cases_eq, eq-eqb, ne_eqb, lt-ltb, le-ltb}
-use Rattle.std.proofs.lemmas.Bool.Decides.{nat_tests}
+use Rattle.std.proofs.lemmas.List.{get_or-set_same, get_or-set_other}
+use Rattle.std.proofs.lemmas.Bool.{cases_eq, eq-eqb, ne_eqb, lt-ltb, and_from, both_ways}
 use Rattle.access.specs.Bits.{bit}
-use Rattle.access.specs.Sets.{byte_at, told}
+use Rattle.access.specs.Sets.{told}
 use Rattle.access.specs.declared.sets.RightSet.{RightSet}
-use Rattle.access.proofs.SetLaws.{bit_zero, byte_get_or}
+use Rattle.access.proofs.SetLaws.{bit_zero}
 
-byte_same : (ss : List RightSet) (x : ℕ) (s : RightSet) → x < length ss → byte_at (set ss x s) x ≡ s.bits
-byte_same [] x s h = absurd (omega arith)
-byte_same (t ∷ ss) zero s h = refl
-byte_same (t ∷ ss) (suc x) s h = byte_same ss x s (omega arith)
+-- the set that is read at x, which is empty past the end
+pub told_read : (ss : List RightSet) (x k : ℕ) (d : RightSet) → bit d.bits k ≡ false → bit (get_or ss x d).bits k ≡ told ss x k
+told_read [] x k d e = e ∙ sym (bit_zero k)
+told_read (s ∷ ss) zero k d e = refl
+told_read (s ∷ ss) (suc x) k d e = told_read ss x k d e
 
-byte_other : (ss : List RightSet) (x y : ℕ) (s : RightSet) → (y ≡ x → ⊥) → byte_at (set ss x s) y ≡ byte_at ss y
-byte_other [] x y s h = refl
-byte_other (t ∷ ss) zero zero s h = absurd (h refl)
-byte_other (t ∷ ss) zero (suc y) s h = refl
-byte_other (t ∷ ss) (suc x) zero s h = refl
-byte_other (t ∷ ss) (suc x) (suc y) s h = byte_other ss x y s (λ e. h (ap suc e))
+abbrev empty : RightSet
+empty = record { bits = 0; small = lit< tt }
 
--- the set that is read at x
-pub told_read : (ss : List RightSet) (x : ℕ) (s : RightSet) → s ≡ get_or ss x s → x < length ss → (k : ℕ) → bit s.bits k ≡ told ss x k
-told_read ss x s e h k = ap (λ (t : RightSet). bit t.bits k) e ∙ ap (λ (b : ℕ). bit b k) (sym (byte_get_or ss x s h))
+told_at : (ss : List RightSet) (x k : ℕ) → told ss x k ≡ bit (get_or ss x empty).bits k
+told_at ss x k = sym (told_read ss x k empty (bit_zero k))
 
 -- past the end there is no right
-pub told_past : (ss : List RightSet) (x k : ℕ) → length ss ≤ x → told ss x k ≡ false
-told_past [] x k h = bit_zero k
-told_past (s ∷ ss) zero k h = absurd (omega arith)
-told_past (s ∷ ss) (suc x) k h = told_past ss x k (omega arith)
+pub told_small : (ss : List RightSet) (n : ℕ) → length ss ≡ n → (x k : ℕ) → told ss x k ≡ true → x < n
+told_small [] n e x k t = absurd (both_ways _ (bit_zero k) t)
+told_small (s ∷ ss) n e zero k t = omega arith
+told_small (s ∷ ss) n e (suc x) k t = let h = told_small ss (length ss) refl x k t in omega arith
 
 -- a row of one set
-pub told_filled : (n : ℕ) (s : RightSet) (x k : ℕ) → told (replicate n s) x k ≡ (ltb x n && bit s.bits k)
-told_filled zero s x k = bit_zero k ∙ sym (ap (λ b. b && bit s.bits k) (le-ltb x zero (omega arith)))
-told_filled (suc n) s zero k = sym (ap (λ b. b && bit s.bits k) (lt-ltb zero (suc n) (omega arith)))
-told_filled (suc n) s (suc x) k = told_filled n s x k ∙ ap (λ b. b && bit s.bits k) (up x n)
-  where
-    up : (x n : ℕ) → ltb x n ≡ ltb (suc x) (suc n)
-    up x n = grind (arith, nat_tests)
+pub told_filled : (n : ℕ) (s : RightSet) (x k : ℕ) → bit s.bits k ≡ false → told (replicate n s) x k ≡ false
+told_filled zero s x k e = bit_zero k
+told_filled (suc n) s zero k e = e
+told_filled (suc n) s (suc x) k e = told_filled n s x k e
 
--- a set with more rights put in at x
-pub told_set : (ss : List RightSet) (x : ℕ) (s : RightSet) (more : ℕ → Bool) → x < length ss
+-- a row of n sets with more rights put in at x
+pub told_set : (ss : List RightSet) (n x : ℕ) (s : RightSet) (more : ℕ → Bool) → x < length ss → x < n
     → ((k : ℕ) → bit s.bits k ≡ (told ss x k || more k))
-    → (y k : ℕ) → told (set ss x s) y k ≡ (told ss y k || (eqb y x && more k))
-told_set ss x s more h f y k =
-    ⊎_elim
-    (λ (e : y ≡ x). ap (λ (z : ℕ). told (set ss x s) z k) e ∙ ap (λ (b : ℕ). bit b k) (byte_same ss x s h) ∙ f k
-    ∙ ap (λ (z : ℕ). told ss z k || more k) (sym e) ∙ ap (λ b. told ss y k || (b && more k)) (sym (eq-eqb y x e)))
-    (λ ne. ap (λ (b : ℕ). bit b k) (byte_other ss x y s ne) ∙ sym (or-false (told ss y k))
-    ∙ ap (λ b. told ss y k || (b && more k)) (sym (ne_eqb y x ne)))
+    → (y k : ℕ) → told (set ss x s) y k ≡ (told ss y k || ((eqb y x && ltb x n) && more k))
+told_set ss n x s more h l f y k =
+    told_at (set ss x s) y k
+    ∙ ⊎_elim
+    (λ (e : y ≡ x). ap (λ (z : ℕ). bit (get_or (set ss x s) z empty).bits k) e ∙ ap (λ (t : RightSet). bit t.bits k) (get_or-set_same ss x s empty h) ∙ f k
+    ∙ ap (λ (z : ℕ). told ss z k || more k) (sym e) ∙ ap (λ b. told ss y k || (b && more k)) (sym (and_from _ _ (eq-eqb y x e) (lt-ltb x n l))))
+    (λ ne. ap (λ (t : RightSet). bit t.bits k) (get_or-set_other ss x y s empty ne) ∙ sym (told_at ss y k) ∙ sym (or-false (told ss y k))
+    ∙ ap (λ b. told ss y k || ((b && ltb x n) && more k)) (sym (ne_eqb y x ne)))
     (cases_eq y x)

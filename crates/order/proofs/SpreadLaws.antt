@@ -1,37 +1,43 @@
 -- Laws of what is carried along an order.
-use Rattle.std.proofs.Common.{◌≡◌, ℕ, ◌+◌, ◌<◌, Bool, true, false, ◌||◌, Decides, sym, ap, ◌∙◌, subst, ⊎_elim, arith}
-use Rattle.std.proofs.lemmas.Bool.{cases_eq, both_ways, or_cases, or_left, or_right}
-use Rattle.std.proofs.lemmas.Bool.Decides.{Decides-at}
+use Rattle.std.proofs.Common.{◌≡◌, ℕ, ◌<◌, Bool, true, false, not, ◌||◌, ◌⊎◌, Some, Decides, sym, ap, ◌∙◌, inl, inr, ⊎_elim}
+use Rattle.std.proofs.lemmas.Bool.{cases_eq, ne_eqb, both_ways, and_from, and_parts, or_cases, or_left, or_right}
+use Rattle.access.specs.Bits.{bit}
+use Rattle.access.proofs.SetLaws.{bit_zero}
 use Rattle.order.specs.Spreads.{Carried}
+use Rattle.order.specs.Taken.{TakesBit}
 
-module _ (below : ℕ → ℕ → Type 0) (base : ℕ → ℕ → Bool) (x k : ℕ) where
-  pub carried_none : (b : Bool) → b ≡ false → Decides b (Carried below base 0 x k)
-  carried_none b e = (λ t. absurd (both_ways b e t), λ c. absurd (let h : c.from < 0 = c.small in omega arith))
+-- the bits `rest` are places that x is at or below; what is gathered is carried, and what is missing is at a place in `rest`
+pub record Gathered (below : ℕ → ℕ → Type 0) (base : ℕ → ℕ → Bool) (n x : ℕ) (all : ℕ → Bool) (rest : ℕ) : Type 0 where
+  pub above : (y : ℕ) → bit rest y ≡ true → below x y
+  pub carried : (k : ℕ) → all k ≡ true → Carried below base n x k
+  pub left : (y k : ℕ) → below x y → base y k ≡ true → (all k ≡ true) ⊎ (bit rest y ≡ true)
 
-  weaker : (n : ℕ) → Carried below base n x k → Carried below base (n + 1) x k
-  weaker n c = record { from = c.from; small = let h = c.small in omega arith; over = c.over; has = c.has }
+-- nothing is gathered yet
+pub gathered_none : (below : ℕ → ℕ → Type 0) (base : ℕ → ℕ → Bool) (n x : ℕ) (all : ℕ → Bool) (rest : ℕ)
+    → ((k : ℕ) → all k ≡ false) → ((y : ℕ) → Decides (bit rest y) (below x y)) → Gathered below base n x all rest
+gathered_none below base n x all rest none d = record {
+  above = λ y t. (d y).0 t;
+  carried = λ k t. absurd (both_ways _ (none k) t);
+  left = λ y k b h. inr ((d y).1 b);
+}
 
-  -- one place more, which x is at or below
-  pub carried_more : (n : ℕ) (old new : Bool) → below x n → Decides old (Carried below base n x k) → new ≡ (old || base n k) → Decides new (Carried below base (n + 1) x k)
-  carried_more n old new p d e = (
-    λ t. ⊎_elim (λ o. weaker n (d.0 o)) (λ b. record { from = n; small = omega arith; over = p; has = b }) (or_cases old (base n k) (sym e ∙ t)),
-    λ c. let l = c.small in e ∙ ⊎_elim
-        (λ (h : c.from ≡ n). or_right old _ (subst (λ (z : ℕ). base z k ≡ true) h c.has))
-        (λ h. or_left old _ (d.1 (record { from = c.from; small = omega arith; over = c.over; has = c.has })))
-        (cases_eq c.from n),
+module _ (below : ℕ → ℕ → Type 0) (base : ℕ → ℕ → Bool) (n x : ℕ) (all : ℕ → Bool) (rest : ℕ) (s : Gathered below base n x all rest) where
+  -- one place more
+  pub gather_more : (past : (y k : ℕ) → base y k ≡ true → y < n) (y : ℕ) (more : ℕ → Bool) (next : ℕ)
+      → ((k : ℕ) → more k ≡ (all k || base y k)) → TakesBit rest (Some y) next → Gathered below base n x more next
+  gather_more past y more next e (here, others) = record {
+    above = λ z t. s.above z (and_parts (bit rest z) _ (sym (others z) ∙ t)).0;
+    carried = λ k t. ⊎_elim (s.carried k) (λ b. record { from = y; small = past y k b; over = s.above y here; has = b }) (or_cases (all k) (base y k) (sym (e k) ∙ t));
+    left = λ z k b h. ⊎_elim (λ o. inl (e k ∙ or_left (all k) _ o))
+        (λ r. ⊎_elim (λ (q : z ≡ y). inl (e k ∙ or_right (all k) _ (sym (ap (λ (j : ℕ). base j k) q) ∙ h)))
+        (λ ne. inr (others z ∙ and_from _ _ r (ap not (ne_eqb z y ne))))
+        (cases_eq z y))
+        (s.left z k b h);
+  }
+
+  -- no place is left
+  pub gathered_all : rest ≡ 0 → (k : ℕ) → Decides (all k) (Carried below base n x k)
+  gathered_all e k = (
+    s.carried k,
+    λ c. ⊎_elim (λ o. o) (λ r. absurd (both_ways _ (ap (λ (m : ℕ). bit m c.from) e ∙ bit_zero c.from) r)) (s.left c.from k c.over c.has),
   )
-
-  -- one place more, which x is not at or below
-  pub carried_skip : (n : ℕ) (old new : Bool) → (below x n → ⊥) → Decides old (Carried below base n x k) → new ≡ old → Decides new (Carried below base (n + 1) x k)
-  carried_skip n old new np d e = Decides-at new old e (
-    λ t. weaker n (d.0 t),
-    λ c. let l = c.small in ⊎_elim (λ (h : c.from ≡ n). absurd (np (subst (below x) h c.over)))
-        (λ h. d.1 (record { from = c.from; small = omega arith; over = c.over; has = c.has })) (cases_eq c.from n),
-  )
-
--- what a loop's turn has put together
-pub or_chain : (new all old read there : Bool) → new ≡ all → all ≡ (old || read) → read ≡ there → new ≡ (old || there)
-or_chain new all old read there p q e = p ∙ q ∙ ap (λ b. old || b) e
-
-pub test_is : (r b v : Bool) → r ≡ b → r ≡ v → b ≡ v
-test_is r b v p q = sym p ∙ q

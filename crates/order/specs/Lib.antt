@@ -1,2 +1,3 @@
 pub mod Rows
 pub mod Spreads
+pub mod Taken

@@ -1,9 +1,9 @@
 // Orders of entity numbers, and what rights are carried along them.
 #![tactic(auto)]
 
+mod bits;
 mod orders;
-mod places;
-mod roles;
+mod relations;
 mod rows;
 mod spreads;
 mod tables;
@@ -11,7 +11,9 @@ mod tables;
 mod tests;
 
 pub use orders::Order;
-pub use places::EntityOrder;
-pub use roles::RoleOrder;
 pub use rows::Row;
 pub use spreads::spread;
+pub use tables::{Entities, EntityOrder, RoleOrder, Roles, Table};
+
+// The most entities that a database has.
+const ENTITIES: usize = 96;

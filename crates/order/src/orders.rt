@@ -2,7 +2,7 @@
 ghost use Rattle.std.specs.Prelude.{◌≡◌, ℕ, Decides};
 ghost use Rattle.access.specs.Bits.{bit};
 
-use crate::tables::has_bit;
+use crate::bits::has_bit;
 
 // An order on entity numbers: `below o x y` says that x is at or below y; `on o x` that x is one of its elements.
 pub trait Order {

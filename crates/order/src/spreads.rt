@@ -4,21 +4,19 @@ ghost use Rattle.access.specs.Bits.{bit};
 ghost use Rattle.access.specs.Sets.{told};
 ghost use Rattle.order.specs.Spreads.{Carried};
 
+use crate::ENTITIES;
+use crate::bits::Bits;
 use crate::orders::Order;
 use crate::rows::Row;
-use crate::tables::has_bit;
 use access::RightSet;
 
 // The rights that `base` has at x and at the places above it.
 fn gather<O: Order>(order: &O, base: &Row, x: usize) -> RightSet
     ensures { (k : ℕ) → Decides (bit result.bits k) (Carried (O.below order.now) (told base.now.sets) 96 x k) }
 {
-    let above = order.above(x);
     let mut all = RightSet::empty();
-    for y in 0..96 {
-        if has_bit(above, y) {
-            all = all.union(base.at(y));
-        }
+    for y in Bits(order.above(x)) {
+        all = all.union(base.at(y));
     }
     all
 }
@@ -29,7 +27,7 @@ pub fn spread<O: Order>(order: &O, base: &Row) -> Row
     ensures past { (x k : ℕ) → 96 ≤ x → told result.sets x k ≡ false }
 {
     let mut row = Row::empty();
-    for x in 0..96 {
+    for x in 0..ENTITIES {
         row.add(x, gather(order, base, x));
     }
     row

@@ -1,55 +1,53 @@
-// Sets of entities as bits, and tables of such sets.
-ghost use Rattle.std.specs.Prelude.{◌≡◌, ℕ, ◌<◌, ◌&&◌, ◌||◌, ◌==◌};
+// An order as a table.
+ghost use Rattle.std.specs.Prelude.{◌≡◌, ℕ, true, ⊤};
 ghost use Rattle.access.specs.Bits.{bit};
-ghost use Rattle.order.specs.Rows.{leq};
+ghost use Rattle.order.specs.Rows.{leq, Transitive, Antisymmetric};
+ghost use Rattle.std.proofs.lemmas.Bool.{and_from};
 
-// The bit of x alone.
-pub fn bit_of(x: usize) -> u128
-    requires { x < 128 }
-    ensures { (y : ℕ) → bit result y ≡ (x == y) }
-{
-    1 << x
+mod places;
+mod roles;
+
+use crate::orders::Order;
+use crate::relations::Relation;
+pub use places::{Entities, EntityOrder};
+pub use roles::{RoleOrder, Roles};
+use std::alloc::AllocError;
+use std::marker::PhantomData;
+
+// A relation that is an order; `K` says of what.
+pub struct Table<K> {
+    relation: Relation,
+    of: PhantomData<K>,
+    ghost reflexive: { (x : ℕ) → bit relation.elements x ≡ true → leq relation.rows x x ≡ true },
+    ghost transitive: { Transitive relation.rows },
+    ghost antisymmetric: { Antisymmetric relation.rows },
 }
 
-// Whether bit y stands in `bits`; past the end it does not.
-pub fn has_bit(bits: u128, y: usize) -> bool
-    ensures { result ≡ bit bits y }
-{
-    y < 128 && (bits >> y) & 1 == 1
-}
+// Kept: neither a derive nor `derive_where` takes a generic struct with ghost fields.
+impl<K> Clone for Table<K> {
+    ghost is_clone = { λ x y. y ≡ x };
 
-// The bits of a and those of b.
-pub fn both(a: u128, b: u128) -> u128
-    ensures { (y : ℕ) → bit result y ≡ (bit a y || bit b y) }
-{
-    a | b
-}
+    ghost is_infallible = { λ _. ⊤ };
 
-// The row at x, which is empty past the end.
-pub fn row_at(rows: &[u128], x: usize) -> u128
-    ensures { (y : ℕ) → bit result y ≡ leq rows.now x y }
-{
-    match rows.get(x) {
-        Some(row) => *row,
-        None => 0,
+    fn clone(&self) -> Result<Self, AllocError> {
+        Ok(*self)
     }
 }
 
-// Adds `more` to each row that has the bit of `lower`.
-fn join_rows(rows: &mut [u128], lower: usize, more: u128)
-    ensures { (x y : ℕ) → leq rows.new x y ≡ (leq rows.old x y || (leq rows.old x lower && bit more y)) }
-{
-    for row in rows.iter_mut() {
-        if has_bit(*row, lower) {
-            *row |= more;
-        }
-    }
-}
+impl<K> Copy for Table<K> {}
 
-// Puts `lower` below `upper`: each row that has the one gets the row of the other.
-pub fn join(rows: &mut [u128], lower: usize, upper: usize)
-    ensures { (x y : ℕ) → leq rows.new x y ≡ (leq rows.old x y || (leq rows.old x lower && leq rows.old upper y)) }
-{
-    let more = row_at(rows, upper);
-    join_rows(rows, lower, more);
+impl<K> Order for Table<K> {
+    ghost on = { λ o x. bit o.relation.elements x ≡ true };
+
+    ghost below = { λ o x y. leq o.relation.rows x y ≡ true };
+
+    ghost reflexive = { λ o x h. o.reflexive x h };
+
+    ghost transitive = { λ o x y z p q. o.transitive (x, y, z) (and_from _ _ p q) };
+
+    ghost antisymmetric = { λ o x y p q. o.antisymmetric x y (and_from _ _ p q) };
+
+    fn above(&self, x: usize) -> u128 {
+        self.relation.at(x)
+    }
 }

@@ -1,9 +1,8 @@
 // Examples: two links of roles, and a right carried along each order.
 use crate::orders::Order;
-use crate::places::EntityOrder;
-use crate::roles::RoleOrder;
 use crate::rows::Row;
 use crate::spreads::spread;
+use crate::tables::{EntityOrder, RoleOrder};
 use access::{Entity, Kind, Link, Mode, Right, RightSet};
 
 const ROOT: Entity = Entity {
