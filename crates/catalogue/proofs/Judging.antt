@@ -9,7 +9,7 @@ use Rattle.access.specs.declared.rights.RightRecord.{RightRecord}
 use Rattle.access.specs.declared.roles.Link.{Link}
 use Rattle.access.specs.declared.roles.Member.{Member}
 use Rattle.access.specs.declared.code.Object.{Object}
-use Rattle.access.specs.declared.code.ObjectNumbers.{ObjectNumbers}
+use Rattle.access.specs.declared.numbers.ObjectNumbers.{ObjectNumbers}
 use Rattle.access.specs.declared.code.Line.{Line}
 use Rattle.access.specs.Codes.{Code}
 use Rattle.access.specs.Numbers.{kind_at, mode_at, right_at, option_at, object_at, runner_at}

@@ -4,3 +4,4 @@ pub mod Judgements
 pub mod Counts
 pub mod Sound
 pub mod Calls
+pub mod Listing

@@ -8,9 +8,13 @@ ghost use Rattle.catalogue.specs.Judgements.{judged_right, judged_member};
 ghost use Rattle.catalogue.specs.Sound.{Sound};
 
 use crate::names::ListName;
-use access::{Entity, Kind, Line, Link, Member, Refusal, Right, RightRecord, option_listed};
+use access::{
+    Entity, Kind, Line, Link, Member, Refusal, Right, RightNumbers, RightRecord, option_listed,
+};
 
 // Its meaning is five lists; a question changes nothing, and may ask that the meaning is sound.
+// Kept: soundness is a clause and no law, since a layer's type can say nothing of the lists below it.
+// Kept: a question for each list, since an implementation finds each in a place of its own; callers have `Listed::at`.
 pub trait Catalogue {
     ghost meaning: { Self → Lists };
 
@@ -43,28 +47,24 @@ pub trait Catalogue {
 
 // The right record that the numbers name, or why a book with the catalogue's entities does not take it.
 pub fn judge_right<C: Catalogue>(
-    c: &C,
-    principal: u8,
-    entity: u8,
-    right: u8,
-    option: u8,
+    catalogue: &C,
+    numbers: RightNumbers,
 ) -> Result<RightRecord, Refusal>
-    requires { Sound (C.meaning c.now) }
-    ensures { coded result ≡ judged_right (C.meaning c.now).entities principal entity right option }
+    requires { Sound (C.meaning catalogue.now) }
+    ensures { coded result ≡ judged_right (C.meaning catalogue.now).entities numbers.principal numbers.entity numbers.right numbers.option }
 {
-    let (Some(right), Some(option)) = (Right::listed(right), option_listed(option)) else {
-        return Err(Refusal::NotListed);
-    };
-    let (Some(who), Some(_)) = (
-        c.entity_at(principal as usize),
-        c.entity_at(entity as usize),
+    let right = Right::try_from(numbers.right)?;
+    let option = option_listed(numbers.option)?;
+    let (Some(principal), Some(_)) = (
+        catalogue.entity_at(numbers.principal as usize),
+        catalogue.entity_at(numbers.entity as usize),
     ) else {
         return Err(Refusal::NotListed);
     };
-    match who.kind {
+    match principal.kind {
         Kind::Account | Kind::Role => Ok(RightRecord {
-            principal,
-            entity,
+            principal: numbers.principal,
+            entity: numbers.entity,
             right,
             option,
         }),
@@ -72,17 +72,19 @@ pub fn judge_right<C: Catalogue>(
     }
 }
 
-// The member record that the numbers name, or why a book with the catalogue's entities does not take it.
-pub fn judge_member<C: Catalogue>(c: &C, account: u8, role: u8) -> Result<Member, Refusal>
-    requires { Sound (C.meaning c.now) }
-    ensures { coded result ≡ judged_member (C.meaning c.now).entities account role }
+// The member record, or why a book with the catalogue's entities does not take it.
+pub fn judge_member<C: Catalogue>(catalogue: &C, member: Member) -> Result<Member, Refusal>
+    requires { Sound (C.meaning catalogue.now) }
+    ensures { coded result ≡ judged_member (C.meaning catalogue.now).entities member.account member.role }
 {
-    let (Some(who), Some(group)) = (c.entity_at(account as usize), c.entity_at(role as usize))
-    else {
+    let (Some(account), Some(role)) = (
+        catalogue.entity_at(member.account as usize),
+        catalogue.entity_at(member.role as usize),
+    ) else {
         return Err(Refusal::NotListed);
     };
-    match (who.kind, group.kind) {
-        (Kind::Account, Kind::Role) => Ok(Member { account, role }),
+    match (account.kind, role.kind) {
+        (Kind::Account, Kind::Role) => Ok(member),
         _ => Err(Refusal::WrongKind),
     }
 }

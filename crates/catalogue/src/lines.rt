@@ -1,26 +1,20 @@
 // Which line of code the numbers name, or why no book takes it.
 ghost use Rattle.std.specs.Prelude.{◌≡◌};
 ghost use Rattle.access.specs.Codes.{coded};
-ghost use Rattle.access.specs.Lists.{stands, fits, is_account, is_procedure, is_table};
+ghost use Rattle.access.specs.Lists.{is_account, is_procedure, is_table};
 ghost use Rattle.catalogue.specs.Judgements.{judged_line, object_fits, runner_stands, runner_fits};
 
-use crate::tables::record_at;
-use access::{Action, Entity, Kind, Line, Object, ObjectNumbers, Refusal, Runner};
-
-fn stands_at(entities: &[Entity], n: u8) -> bool
-    ensures { result ≡ stands entities.now n }
-{
-    record_at(entities, n as usize).is_some()
-}
+use crate::tables::{kind_at, stands};
+use access::{Action, Entity, Kind, Line, LineNumbers, Object, Refusal, Runner};
 
 // Whether the object can stand in a catalogue with these entities.
 fn object_fits(entities: &[Entity], x: Object) -> bool
     ensures { result ≡ object_fits entities.now x }
 {
-    match (x, record_at(entities, x.place() as usize)) {
-        (Object::Procedure(_), Some(e)) => matches!(e.kind, Kind::Procedure),
-        (Object::Triggers(_, _), Some(e)) => matches!(e.kind, Kind::Table),
-        _ => false,
+    match x {
+        Object::Procedure(n) => kind_at(entities, n) == Some(Kind::Procedure),
+        Object::Triggers(n, _) => kind_at(entities, n) == Some(Kind::Table),
+        Object::Created(_) => false,
     }
 }
 
@@ -29,7 +23,7 @@ fn runner_stands(entities: &[Entity], runner: Runner) -> bool
 {
     match runner {
         Runner::Caller => true,
-        Runner::Account(n) => stands_at(entities, n),
+        Runner::Account(n) => stands(entities, n),
     }
 }
 
@@ -38,38 +32,32 @@ fn runner_fits(entities: &[Entity], runner: Runner) -> bool
 {
     match runner {
         Runner::Caller => true,
-        Runner::Account(n) => match record_at(entities, n as usize) {
-            Some(e) => matches!(e.kind, Kind::Account),
-            None => false,
-        },
+        Runner::Account(n) => kind_at(entities, n) == Some(Kind::Account),
     }
 }
 
 // The line that the numbers name, or why a book with these entities does not take it.
-pub fn judge_line(
-    entities: &[Entity],
-    object: ObjectNumbers,
-    runner: u8,
-    called: ObjectNumbers,
-) -> Result<Line, Refusal>
-    ensures { coded result ≡ judged_line entities.now object runner called }
+pub fn judge_line(entities: &[Entity], numbers: LineNumbers) -> Result<Line, Refusal>
+    ensures { coded result ≡ judged_line entities.now numbers.object numbers.runner numbers.called }
 {
-    let (Some(x), Some(y)) = (Object::listed(object), Object::listed(called)) else {
-        return Err(Refusal::NotListed);
-    };
-    let runner = Runner::listed(runner);
-    if !(stands_at(entities, x.place())
+    let object = Object::try_from(numbers.object)?;
+    let called = Object::try_from(numbers.called)?;
+    let runner = Runner::from(numbers.runner);
+    if !(stands(entities, object.place())
         && runner_stands(entities, runner)
-        && stands_at(entities, y.place()))
+        && stands(entities, called.place()))
     {
         return Err(Refusal::NotListed);
     }
-    if !(object_fits(entities, x) && runner_fits(entities, runner) && object_fits(entities, y)) {
+    if !(object_fits(entities, object)
+        && runner_fits(entities, runner)
+        && object_fits(entities, called))
+    {
         return Err(Refusal::WrongKind);
     }
     Ok(Line {
-        object: x,
+        object,
         runner,
-        action: Action::Call(y),
+        action: Action::Call(called),
     })
 }
