@@ -8,5 +8,5 @@ mod placing;
 mod text;
 
 pub use books::Book;
-pub use calls::{Answer, Call, apply};
+pub use calls::{Call, apply};
 pub use fills::{Gathers, fill};

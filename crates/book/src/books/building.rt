@@ -9,7 +9,9 @@ ghost use Rattle.book.specs.Meaning.{lists_of};
 
 use crate::books::Book;
 use crate::placing::place;
-use access::{Entity, Kind, Mode, ObjectNumbers, Refusal, RightRecord};
+use access::{
+    Entity, EntityNumbers, Kind, LineNumbers, Link, Member, Refusal, RightNumbers, RightRecord,
+};
 use catalogue::{judge_entity, judge_line, judge_link, judge_member, judge_right};
 use std::alloc::{AllocError, Global};
 
@@ -23,24 +25,9 @@ impl Book {
         let rights = Vec::with_capacity(heap, 256)?;
         let members = Vec::with_capacity(heap, 128)?;
         let lines = Vec::with_capacity(heap, 256)?;
-        entities.push_reserved(Entity {
-            kind: Kind::Container,
-            parent: 0,
-            owner: 2,
-            mode: Mode::Creator,
-        });
-        entities.push_reserved(Entity {
-            kind: Kind::Role,
-            parent: 0,
-            owner: 2,
-            mode: Mode::Creator,
-        });
-        entities.push_reserved(Entity {
-            kind: Kind::Role,
-            parent: 0,
-            owner: 2,
-            mode: Mode::Creator,
-        });
+        entities.push_reserved(Entity::first(Kind::Container));
+        entities.push_reserved(Entity::first(Kind::Role));
+        entities.push_reserved(Entity::first(Kind::Role));
         Ok(Book {
             entities,
             links,
@@ -62,27 +49,22 @@ impl Book {
     }
 
     // Declares an entity, and returns its number.
-    pub fn declare(&mut self, kind: u8, parent: u8, owner: u8, mode: u8) -> Result<usize, Refusal>
-        ensures answer { coded result ≡ (declared (lists_of self.old) kind parent owner mode).answer }
-        ensures lists { lists_of self.new ≡ (declared (lists_of self.old) kind parent owner mode).lists }
+    pub fn declare(&mut self, numbers: EntityNumbers) -> Result<usize, Refusal>
+        ensures answer { coded result ≡ (declared (lists_of self.old) numbers.kind numbers.parent numbers.owner numbers.mode).answer }
+        ensures lists { lists_of self.new ≡ (declared (lists_of self.old) numbers.kind numbers.parent numbers.owner numbers.mode).lists }
     {
-        let x = judge_entity(self.entities.as_slice(), kind, parent, owner, mode)?;
+        let x = judge_entity(&self.entities, numbers)?;
         let n = self.entities.len();
         self.entities.push_reserved(x);
         Ok(n)
     }
 
     // Puts a role below another, and returns the number of the record.
-    pub fn link(&mut self, lower: u8, upper: u8) -> Result<usize, Refusal>
-        ensures answer { coded result ≡ (linked (lists_of self.old) lower upper).answer }
-        ensures lists { lists_of self.new ≡ (linked (lists_of self.old) lower upper).lists }
+    pub fn link(&mut self, link: Link) -> Result<usize, Refusal>
+        ensures answer { coded result ≡ (linked (lists_of self.old) link.lower link.upper).answer }
+        ensures lists { lists_of self.new ≡ (linked (lists_of self.old) link.lower link.upper).lists }
     {
-        let x = judge_link(
-            self.entities.as_slice(),
-            self.links.as_slice(),
-            lower,
-            upper,
-        )?;
+        let x = judge_link(&self.entities, &self.links, link)?;
         place(&mut self.links, x, 64)
     }
 
@@ -104,17 +86,11 @@ impl Book {
     }
 
     // Grants a right on an entity to a principal, and returns the number of the record; the option raises one that stands.
-    pub fn grant(
-        &mut self,
-        principal: u8,
-        entity: u8,
-        right: u8,
-        option: u8,
-    ) -> Result<usize, Refusal>
-        ensures answer { coded result ≡ (granted (lists_of self.old) principal entity right option).answer }
-        ensures lists { lists_of self.new ≡ (granted (lists_of self.old) principal entity right option).lists }
+    pub fn grant(&mut self, numbers: RightNumbers) -> Result<usize, Refusal>
+        ensures answer { coded result ≡ (granted (lists_of self.old) numbers.principal numbers.entity numbers.right numbers.option).answer }
+        ensures lists { lists_of self.new ≡ (granted (lists_of self.old) numbers.principal numbers.entity numbers.right numbers.option).lists }
     {
-        let x = judge_right(self, principal, entity, right, option)?;
+        let x = judge_right(self, numbers)?;
         let n = self.put_right(x)?;
         if x.option {
             self.raise(n);
@@ -123,25 +99,20 @@ impl Book {
     }
 
     // Puts an account into a role, and returns the number of the record.
-    pub fn join(&mut self, account: u8, role: u8) -> Result<usize, Refusal>
-        ensures answer { coded result ≡ (joined (lists_of self.old) account role).answer }
-        ensures lists { lists_of self.new ≡ (joined (lists_of self.old) account role).lists }
+    pub fn join(&mut self, member: Member) -> Result<usize, Refusal>
+        ensures answer { coded result ≡ (joined (lists_of self.old) member.account member.role).answer }
+        ensures lists { lists_of self.new ≡ (joined (lists_of self.old) member.account member.role).lists }
     {
-        let x = judge_member(self, account, role)?;
+        let x = judge_member(self, member)?;
         place(&mut self.members, x, 128)
     }
 
     // Puts a line into an object that calls another, and returns the number of the record.
-    pub fn line(
-        &mut self,
-        object: ObjectNumbers,
-        runner: u8,
-        called: ObjectNumbers,
-    ) -> Result<usize, Refusal>
-        ensures answer { coded result ≡ (lined (lists_of self.old) object runner called).answer }
-        ensures lists { lists_of self.new ≡ (lined (lists_of self.old) object runner called).lists }
+    pub fn line(&mut self, numbers: LineNumbers) -> Result<usize, Refusal>
+        ensures answer { coded result ≡ (lined (lists_of self.old) numbers.object numbers.runner numbers.called).answer }
+        ensures lists { lists_of self.new ≡ (lined (lists_of self.old) numbers.object numbers.runner numbers.called).lists }
     {
-        let x = judge_line(self.entities.as_slice(), object, runner, called)?;
+        let x = judge_line(&self.entities, numbers)?;
         place(&mut self.lines, x, 256)
     }
 }

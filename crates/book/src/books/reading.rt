@@ -8,7 +8,7 @@ ghost use Rattle.book.specs.Meaning.{lists_of};
 
 use crate::books::Book;
 use access::{Entity, Line, Link, Member, RightRecord};
-use catalogue::{Catalogue, ListName, record_at};
+use catalogue::{Catalogue, ListName};
 
 impl Catalogue for Book {
     ghost meaning = { lists_of };
@@ -28,31 +28,31 @@ impl Catalogue for Book {
     fn entity_at(&self, n: usize) -> Option<Entity>
         ensures { result ≡ slice_get (lists_of self.now).entities n }
     {
-        record_at(self.entities.as_slice(), n)
+        self.entities.get(n).copied()
     }
 
     fn link_at(&self, n: usize) -> Option<Link>
         ensures { result ≡ slice_get (lists_of self.now).links n }
     {
-        record_at(self.links.as_slice(), n)
+        self.links.get(n).copied()
     }
 
     fn right_at(&self, n: usize) -> Option<RightRecord>
         ensures { result ≡ slice_get (lists_of self.now).rights n }
     {
-        record_at(self.rights.as_slice(), n)
+        self.rights.get(n).copied()
     }
 
     fn member_at(&self, n: usize) -> Option<Member>
         ensures { result ≡ slice_get (lists_of self.now).members n }
     {
-        record_at(self.members.as_slice(), n)
+        self.members.get(n).copied()
     }
 
     fn line_at(&self, n: usize) -> Option<Line>
         ensures { result ≡ slice_get (lists_of self.now).lines n }
     {
-        record_at(self.lines.as_slice(), n)
+        self.lines.get(n).copied()
     }
 }
 

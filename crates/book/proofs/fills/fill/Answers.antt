@@ -17,10 +17,12 @@ loop-i-preserved g c =
     let h = c.loop-i-test.true in
     let room : i < length c.loop-i.answers = omega arith in
     let more : take (i + 1) calls ≡ take i calls ++ x ∷ [] = take_more calls i x h ∙ ap (λ y. take i calls ++ y ∷ []) (sym c.index-calls-i.is) in
-    let answer = c.perform.ensures.answer (take i calls) c.loop-i.invariant.0 in (
+    let answer = c.perform.ensures.answer (take i calls) c.loop-i.invariant.0 in
+    let set = drop-set-lt (length calls) c.loop-i.answers i r h in
+    let rest = c.loop-i.invariant.2 in (
       subst (g.T.Gathers.holds c.perform.new.self) (sym more) (c.perform.ensures.holds (take i calls) c.loop-i.invariant.0),
       turned_more g.T.Gathers.returns calls c.loop-i.answers i x r room (slice_get_read calls (length calls) i x refl h c.index-calls-i.is) answer c.loop-i.invariant.1,
-      drop-set-lt (length calls) c.loop-i.answers i r h ∙ c.loop-i.invariant.2,
+      cc,
     )
 
 pub returns : goal.returns

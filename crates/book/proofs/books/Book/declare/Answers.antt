@@ -19,7 +19,7 @@ push_reserved-requires c =
     let b = c.args.self.now in
     let l = lists_of b in
     let x = c.in_ok-x.x in
-    let t = takes (vec_items b.entities) c.as_slice.result.now c.args.kind c.args.parent c.args.owner c.args.mode x c.in_ok-x.ensures c.as_slice.ensures.value in
+    let t = takes (vec_items b.entities) c.deref.result.now c.args.numbers.kind c.args.numbers.parent c.args.numbers.owner c.args.numbers.mode x c.in_ok-x.ensures c.deref.ensures.value in
     let few : length (vec_items b.entities) < 96 = entities_room (vec_items b.entities) x (kept_out l b.kept).entities t in
     omega (arith, b.room.0, b.entities.ok.0)
 
@@ -28,7 +28,7 @@ invariant_of-self c =
     let b = c.args.self.now in
     let l = lists_of b in
     let x = c.in_ok-x.x in
-    let t = takes (vec_items b.entities) c.as_slice.result.now c.args.kind c.args.parent c.args.owner c.args.mode x c.in_ok-x.ensures c.as_slice.ensures.value in
+    let t = takes (vec_items b.entities) c.deref.result.now c.args.numbers.kind c.args.numbers.parent c.args.numbers.owner c.args.numbers.mode x c.in_ok-x.ensures c.deref.ensures.value in
     let k = entity_kept l x (kept_out l b.kept) t in
     record {
       room = (omega (arith, b.room.0, c.push_reserved.ensures.capacity), b.room.1, b.room.2, b.room.3, b.room.4);

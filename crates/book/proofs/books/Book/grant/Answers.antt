@@ -10,4 +10,4 @@ judge_right-requires c = let l = lists_of c.args.self.now in kept_sound l (kept_
 
 pub put_right-requires : goal.put_right-requires
 put_right-requires c =
-    judged_right_lem (lists_of c.args.self.now).entities c.args.principal c.args.entity c.args.right c.args.option c.in_ok-x.x (sym c.in_ok-x.ensures)
+    judged_right_lem (lists_of c.args.self.now).entities c.args.numbers.principal c.args.numbers.entity c.args.numbers.right c.args.numbers.option c.in_ok-x.x (sym c.in_ok-x.ensures)

@@ -14,7 +14,7 @@ pub invariant_of-self : goal.invariant_of-self
 invariant_of-self c =
     let b = c.args.self.now in
     let l = lists_of b in
-    let t = judged_member_lem l.entities c.args.account c.args.role c.in_ok-x.x (sym c.in_ok-x.ensures) in
+    let t = judged_member_lem l.entities c.args.member.account c.args.member.role c.in_ok-x.x (sym c.in_ok-x.ensures) in
     let k = member_kept l c.in_ok-x.x (kept_out l b.kept) t in
     record {
       room = (b.room.0, b.room.1, b.room.2, omega (arith, c.place.ensures.capacity), b.room.4);

@@ -1,7 +1,7 @@
 use Rattle.std.proofs.Common.{◌≡◌, ℕ, List, Ok, sym, ap, ◌∙◌, subst, arith}
 use Rattle.access.specs.declared.entities.Entity.{Entity}
 use Rattle.access.specs.declared.code.Line.{Line}
-use Rattle.access.specs.declared.code.ObjectNumbers.{ObjectNumbers}
+use Rattle.access.specs.declared.numbers.ObjectNumbers.{ObjectNumbers}
 use Rattle.catalogue.specs.Sound.{TakesLine, Kept}
 use Rattle.catalogue.specs.Calls.{with_lines}
 use Rattle.catalogue.specs.Judgements.{judged_line}
@@ -20,7 +20,7 @@ invariant_of-self c =
     let b = c.args.self.now in
     let l = lists_of b in
     let x = c.in_ok-x.x in
-    let t = takes l.entities c.as_slice.result.now c.args.object c.args.runner c.args.called x c.in_ok-x.ensures c.as_slice.ensures.value in
+    let t = takes l.entities c.deref.result.now c.args.numbers.object c.args.numbers.runner c.args.numbers.called x c.in_ok-x.ensures c.deref.ensures.value in
     let k = line_kept l x (kept_out l b.kept) t in
     record {
       room = (b.room.0, b.room.1, b.room.2, b.room.3, omega (arith, c.place.ensures.capacity));

@@ -23,8 +23,8 @@ judge_link-requires c =
     let l = lists_of c.args.self.now in
     let k = kept_out l c.args.self.now.kept in
     record {
-      few = subst (λ es. length es ≤ 96) (sym c.as_slice.ensures.value) (entities_few l.entities k.entities);
-      linked = subst (λ es. Linked es c.as_slice-2.result.now) (sym c.as_slice.ensures.value) (subst (Linked l.entities) (sym c.as_slice-2.ensures.value) k.links.linked);
+      few = subst (λ es. length es ≤ 96) (sym c.deref.ensures.value) (entities_few l.entities k.entities);
+      linked = subst (λ es. Linked es c.deref-2.result.now) (sym c.deref.ensures.value) (subst (Linked l.entities) (sym c.deref-2.ensures.value) k.links.linked);
     }
 
 pub invariant_of-self : goal.invariant_of-self
@@ -40,7 +40,7 @@ invariant_of-self-2 c =
     let l = lists_of b in
     let x = c.in_ok-x.x in
     let old = kept_out l b.kept in
-    let f = fits l.entities c.as_slice.result.now l.links c.as_slice-2.result.now c.args.lower c.args.upper x old.links.linked c.in_ok-x.ensures c.as_slice.ensures.value c.as_slice-2.ensures.value in
+    let f = fits l.entities c.deref.result.now l.links c.deref-2.result.now c.args.link.lower c.args.link.upper x old.links.linked c.in_ok-x.ensures c.deref.ensures.value c.deref-2.ensures.value in
     let k = link_kept l x old f in
     record {
       room = (b.room.0, omega (arith, c.place.ensures.capacity), b.room.2, b.room.3, b.room.4);
