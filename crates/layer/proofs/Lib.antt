@@ -1,4 +1,3 @@
-pub mod Picks
 pub mod Over
 pub mod Stays
 pub mod Passing

@@ -17,20 +17,21 @@ use Rattle.book.specs.Gathered.{called}
 use Rattle.book.specs.declared.books.Book.{Book}
 use Rattle.book.specs.contracts.books.reading.BookCatalogue.TheImpl as book_catalogue
 use Rattle.book.specs.Meaning.{lists_of}
+use Rattle.std.specs.List.{filter_map, cons_option}
 use Rattle.layer.specs.declared.layers.Layer.{Layer}
 use Rattle.layer.specs.declared.proposals.Proposal.{Proposal}
-use Rattle.layer.specs.Proposals.{picked, or_none, right_in, member_in, rights_of, members_of, over}
+use Rattle.layer.specs.Proposals.{right_in, member_in, rights_of, members_of, over}
 use Rattle.layer.specs.Stands.{stand_of, meant}
 use Rattle.layer.proofs.Over.{all_back}
 use Rattle.layer.proofs.Stays.{sound_with}
 
-none_few : {X : Type 0} (o : Option X) (xs : List X) → length (or_none o xs) ≤ length xs + 1
+none_few : {X : Type 0} (o : Option X) (xs : List X) → length (cons_option o xs) ≤ length xs + 1
 none_few None xs = omega arith
 none_few (Some x) xs = omega arith
 
-picked_few : {A X : Type 0} (f : A → Option X) (ps : List A) → length (picked f ps) ≤ length ps
+picked_few : {A X : Type 0} (f : A → Option X) (ps : List A) → length (filter_map f ps) ≤ length ps
 picked_few f [] = omega arith
-picked_few f (p ∷ ps) = omega (arith, none_few (f p) (picked f ps), picked_few f ps)
+picked_few f (p ∷ ps) = omega (arith, none_few (f p) (filter_map f ps), picked_few f ps)
 
 -- the same entities, or one more
 abbrev pub Grown : List Entity → List Entity → Type 0
@@ -42,11 +43,11 @@ unless_grown l put (Err c) h = inl refl
 unless_grown l put (Ok x) h = h x
 
 pub called_grown : (l : Lists) (c : Call) → Grown l.entities (called l c).lists.entities
-called_grown l (call.Declare k p o m) = unless_grown l _ (judged_entity l.entities k p o m) (λ x. inr (x, refl))
-called_grown l (call.Link lower upper) = unless_grown l _ (judged_link l.entities l.links lower upper) (λ x. inl refl)
-called_grown l (call.Grant p e a o) = unless_grown l _ (judged_right l.entities p e a o) (λ x. inl refl)
-called_grown l (call.Join a r) = unless_grown l _ (judged_member l.entities a r) (λ x. inl refl)
-called_grown l (call.Line x r y) = unless_grown l _ (judged_line l.entities x r y) (λ x. inl refl)
+called_grown l (call.Declare x) = unless_grown l _ (judged_entity l.entities x.kind x.parent x.owner x.mode) (λ y. inr (y, refl))
+called_grown l (call.Link x) = unless_grown l _ (judged_link l.entities l.links x.lower x.upper) (λ y. inl refl)
+called_grown l (call.Grant x) = unless_grown l _ (judged_right l.entities x.principal x.entity x.right x.option) (λ y. inl refl)
+called_grown l (call.Join x) = unless_grown l _ (judged_member l.entities x.account x.role) (λ y. inl refl)
+called_grown l (call.Line x) = unless_grown l _ (judged_line l.entities x.object x.runner x.called) (λ y. inl refl)
 
 -- what a book with these entities takes, one with one more takes
 grown_fit : {X : Type 0} (takes : List Entity → X → Type 0) → ((es : List Entity) (e : Entity) (x : X) → takes es x → takes (es ++ e ∷ []) x)

@@ -1,7 +1,9 @@
 -- A new layer means what the one below means, and every proposal and withdrawal keeps a layer's meaning sound.
-use Rattle.std.proofs.Common.{◌≡◌, ℕ, ◌-◌, ◌<◌, ◌&&◌, ltb, List, [], ◌∷◌, ◌++◌, length, drop, Some, None, Ok, Err, Option, Result, sym, refl, ap, ◌∙◌, subst, arith}
+use Rattle.std.proofs.Common.{◌≡◌, ℕ, ◌-◌, ◌<◌, ◌&&◌, ltb, List, [], ◌∷◌, ◌++◌, length, drop, Ok, Err, Option, Result, sym, refl, ap, ◌∙◌, subst, arith}
 use Rattle.std.proofs.ByRecursion.{All-push}
 use Rattle.std.proofs.lemmas.List.{length_push, append_assoc, append-nil, take-append-drop}
+use Rattle.std.specs.List.{filter_map}
+use Rattle.std.proofs.lemmas.List.Elements.{filter_map-append}
 use Rattle.std.proofs.lemmas.Bool.{cond_both, and_parts, ltb-true}
 use Rattle.access.specs.declared.rights.RightRecord.{RightRecord}
 use Rattle.access.specs.declared.roles.Member.{Member}
@@ -12,20 +14,12 @@ use Rattle.catalogue.specs.Sound.{TakesRight, TakesMember, Listed, Sound}
 use Rattle.catalogue.proofs.Judging.{judged_right_lem, judged_member_lem}
 use Rattle.layer.specs.declared.proposals.Proposal.{Proposal}
 use Rattle.layer.specs.declared.proposals.Proposal.TheVariants as proposal
-use Rattle.layer.specs.Proposals.{picked, or_none, right_in, member_in, rights_of, members_of, over, Reply, taken, proposed_right, proposed_member, withdrawn}
+use Rattle.layer.specs.Proposals.{right_in, member_in, rights_of, members_of, over, Reply, taken, proposed_right, proposed_member, withdrawn}
 use Rattle.layer.proofs.Over.{listed_front, sound_below}
 
-none_append : {X : Type 0} (o : Option X) (xs ys : List X) → or_none o (xs ++ ys) ≡ or_none o xs ++ ys
-none_append None xs ys = refl
-none_append (Some x) xs ys = refl
-
-pub picked_append : {A X : Type 0} (f : A → Option X) (ps qs : List A) → picked f (ps ++ qs) ≡ picked f ps ++ picked f qs
-picked_append f [] qs = refl
-picked_append f (p ∷ ps) qs = ap (or_none (f p)) (picked_append f ps qs) ∙ none_append (f p) (picked f ps) (picked f qs)
-
 -- the records of one kind below and proposed, where more are proposed
-picked_over : {A X : Type 0} (f : A → Option X) (xs : List X) (ps qs : List A) → xs ++ picked f (ps ++ qs) ≡ (xs ++ picked f ps) ++ picked f qs
-picked_over f xs ps qs = ap (λ ys. xs ++ ys) (picked_append f ps qs) ∙ sym (append_assoc xs (picked f ps) (picked f qs))
+picked_over : {A X : Type 0} (f : A → Option X) (xs : List X) (ps qs : List A) → xs ++ filter_map f (ps ++ qs) ≡ (xs ++ filter_map f ps) ++ filter_map f qs
+picked_over f xs ps qs = ap (λ ys. xs ++ ys) (filter_map-append f ps qs) ∙ sym (append_assoc xs (filter_map f ps) (filter_map f qs))
 
 listed_push : {X : Type 0} (takes : X → Type 0) (xs : List X) (x : X) → Listed takes xs → takes x → length xs < 4096 → Listed takes (xs ++ x ∷ [])
 listed_push takes xs x h t room = record { fit = All-push takes xs x h.fit t; few = omega (arith, length_push xs x) }

@@ -1,11 +1,11 @@
 -- What any list of changes to a layer over a book comes to, from their arguments alone.
 use Rattle.std.specs.Prelude.{◌≡◌, ℕ, Bool, ◌⊎◌, List, length, fold, Result, nat_lt}
 use Rattle.std.proofs.Common.{inl, inr}
-use Rattle.access.specs.Codes.{Code}
+use Rattle.access.specs.Codes.{Code, coded}
 use Rattle.access.specs.Lists.{Lists}
 use Rattle.catalogue.specs.Calls.{Outcome}
 use Rattle.catalogue.specs.Sound.{Sound}
-use Rattle.book.specs.Gathered.{called, said}
+use Rattle.book.specs.Gathered.{called}
 use Rattle.layer.specs.declared.proposals.Proposal.{Proposal}
 use Rattle.layer.specs.declared.changes.Change.{Change}
 use Rattle.layer.specs.declared.changes.Change.TheVariants as change
@@ -16,7 +16,7 @@ use Rattle.layer.specs.Stands.{Stand, meant, new_stand}
 
 -- what a response says: a number or a refusal, or whether there was a proposal to take back
 abbrev pub told : Response → Result ℕ Code ⊎ Bool
-told (response.Answered answer) = inl (said answer)
+told (response.Answered answer) = inl (coded answer)
 told (response.Withdrawn had) = inr had
 
 -- what a change returned, and what the layer and the book hold after it
@@ -33,8 +33,8 @@ proposed l r = record { response = inl r.answer; stand = record { lists = l; pro
 -- one change to what stands
 abbrev pub changed : Stand → Change → Effect
 changed s (change.Build call) = built s.proposals (called s.lists call)
-changed s (change.ProposeRight p e a o) = proposed s.lists (proposed_right s.lists s.proposals p e a o)
-changed s (change.ProposeMember a r) = proposed s.lists (proposed_member s.lists s.proposals a r)
+changed s (change.ProposeRight x) = proposed s.lists (proposed_right s.lists s.proposals x.principal x.entity x.right x.option)
+changed s (change.ProposeMember x) = proposed s.lists (proposed_member s.lists s.proposals x.account x.role)
 changed s change.Withdraw = record {
   response = inr (nat_lt 0 (length s.proposals));
   stand = record { lists = s.lists; proposals = withdrawn s.proposals };

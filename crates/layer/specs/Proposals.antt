@@ -1,5 +1,6 @@
 -- What proposals add to the lists below them, and what comes of proposing and withdrawing.
 use Rattle.std.specs.Prelude.{ℕ, ◌-◌, cond, ◌&&◌, List, [], ◌∷◌, ◌++◌, length, take, Some, None, Ok, Err, Option, Result, nat_lt}
+use Rattle.std.specs.List.{filter_map}
 use Rattle.access.specs.declared.refusals.Refusal.TheVariants.{Full}
 use Rattle.access.specs.declared.rights.RightRecord.{RightRecord}
 use Rattle.access.specs.declared.roles.Member.{Member}
@@ -17,20 +18,12 @@ abbrev pub member_in : Proposal → Option Member
 member_in (proposal.Right x) = None
 member_in (proposal.Member x) = Some x
 
-abbrev pub or_none : {X : Type 0} → Option X → List X → List X
-or_none None xs = xs
-or_none (Some x) xs = x ∷ xs
-
 -- the records of one kind, in their order
-abbrev pub picked : {A X : Type 0} → (A → Option X) → List A → List X
-picked f [] = []
-picked f (a ∷ rest) = or_none (f a) (picked f rest)
-
 abbrev pub rights_of : List Proposal → List RightRecord
-rights_of ps = picked right_in ps
+rights_of ps = filter_map right_in ps
 
 abbrev pub members_of : List Proposal → List Member
-members_of ps = picked member_in ps
+members_of ps = filter_map member_in ps
 
 -- a layer's own records, by list
 abbrev pub own : List Proposal → Lists

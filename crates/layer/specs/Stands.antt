@@ -1,6 +1,7 @@
 -- What a layer over a book holds, and what it means.
-use Rattle.std.specs.Prelude.{List, [], vec_items}
+use Rattle.std.specs.Prelude.{◌≡◌, List, [], vec_items}
 use Rattle.access.specs.Lists.{Lists, new_lists}
+use Rattle.catalogue.specs.Sound.{Sound}
 use Rattle.book.specs.declared.books.Book.{Book}
 use Rattle.book.specs.contracts.books.reading.BookCatalogue.TheImpl as book_catalogue
 use Rattle.book.specs.Meaning.{lists_of}
@@ -21,3 +22,8 @@ meant s = over s.lists s.proposals
 -- a new layer over a new book
 abbrev pub new_stand : Stand
 new_stand = record { lists = new_lists; proposals = [] }
+
+-- what a building call that is passed down leaves of a layer: its proposals, and a sound meaning where it was sound
+pub record PassedDown (old new : Layer Book book_catalogue.ghosts) : Type 0 where
+  pub proposals : new.proposals ≡ old.proposals
+  pub sound : Sound (meant (stand_of old)) → Sound (meant (stand_of new))

@@ -5,27 +5,20 @@ ghost use Rattle.layer.specs.Stands.{stand_of, meant};
 ghost use Rattle.layer.specs.Changes.{changed, stand_after, told, Holds};
 
 use crate::layers::Layer;
-use book::{Answer, Book, Call, Gathers};
+use access::{Member, Refusal, RightNumbers};
+use book::{Book, Call, Gathers};
 
-#[derive(Clone, Copy)]
+#[derive(Clone, Copy, PartialEq, Eq)]
 pub enum Change {
     Build(Call),
-    ProposeRight {
-        principal: u8,
-        entity: u8,
-        right: u8,
-        option: u8,
-    },
-    ProposeMember {
-        account: u8,
-        role: u8,
-    },
+    ProposeRight(RightNumbers),
+    ProposeMember(Member),
     Withdraw,
 }
 
-#[derive(Clone, Copy)]
+#[derive(Clone, Copy, PartialEq, Eq)]
 pub enum Response {
-    Answered(Answer),
+    Answered(Result<usize, Refusal>),
     // whether there was a proposal to take back
     Withdrawn(bool),
 }
@@ -39,15 +32,8 @@ pub fn apply(layer: &mut Layer<Book>, change: Change) -> Response
 {
     match change {
         Change::Build(call) => Response::Answered(layer.build(call)),
-        Change::ProposeRight {
-            principal,
-            entity,
-            right,
-            option,
-        } => Response::Answered(Answer::of(layer.propose_right(principal, entity, right, option))),
-        Change::ProposeMember { account, role } => {
-            Response::Answered(Answer::of(layer.propose_member(account, role)))
-        }
+        Change::ProposeRight(numbers) => Response::Answered(layer.propose_right(numbers)),
+        Change::ProposeMember(member) => Response::Answered(layer.propose_member(member)),
         Change::Withdraw => Response::Withdrawn(layer.withdraw()),
     }
 }

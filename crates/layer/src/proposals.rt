@@ -1,29 +1,37 @@
 // A record that a layer adds to the catalogue below it.
-ghost use Rattle.std.specs.Prelude.{◌≡◌, List, ◌++◌, length, Option};
-ghost use Rattle.std.specs.List.{slice_get};
+ghost use Rattle.std.specs.Prelude.{◌≡◌, List, ◌++◌, length, Option, refl};
+ghost use Rattle.std.specs.List.{filter_map, slice_get};
+ghost use Rattle.access.specs.Lists.{Lists};
 ghost use Rattle.catalogue.specs.Counts.{count_of};
 ghost use Rattle.layer.specs.declared.proposals.Proposal.{Proposal};
-ghost use Rattle.layer.specs.Proposals.{picked, right_in, member_in, own};
+ghost use Rattle.layer.specs.Proposals.{right_in, member_in, own, over};
 
 use access::{Member, RightRecord};
-use catalogue::ListName;
+use catalogue::{ListName, Listed};
 
-#[derive(Clone, Copy)]
+#[derive(Clone, Copy, PartialEq, Eq)]
 pub enum Proposal {
     Right(RightRecord),
     Member(Member),
 }
 
 // A kind of record that can be proposed.
-pub(crate) trait Proposed: Sized {
+pub(crate) trait Proposed: Listed {
     ghost held: { Proposal → Option Self };
 
+    // The record of a proposal, if it is of this kind.
+    // Kept: `TryFrom` is no plainer, since it would want an error where there is just nothing to give.
     fn from_proposal(p: Proposal) -> Option<Self>
         ensures { result ≡ held p };
+
+    // The list has the proposals after the records below.
+    ghost follows: { (l : Lists) (ps : List Proposal) → Self.listed (over l ps) ≡ Self.listed l ++ filter_map held ps };
 }
 
 impl Proposed for RightRecord {
     ghost held = { right_in };
+
+    ghost follows = { λ l ps. refl };
 
     fn from_proposal(p: Proposal) -> Option<RightRecord> {
         match p {
@@ -36,6 +44,8 @@ impl Proposed for RightRecord {
 impl Proposed for Member {
     ghost held = { member_in };
 
+    ghost follows = { λ l ps. refl };
+
     fn from_proposal(p: Proposal) -> Option<Member> {
         match p {
             Proposal::Right(_) => None,
@@ -45,16 +55,13 @@ impl Proposed for Member {
 }
 
 // How many records of the kind are proposed.
-fn count_proposed<T: Proposed + Drop>(proposals: &[Proposal]) -> usize
-    ensures { result ≡ length (picked T.held proposals.now) }
+fn count_proposed<T: Proposed>(proposals: &[Proposal]) -> usize
+    ensures { result ≡ length (filter_map T.held proposals.now) }
 {
-    let mut n: usize = 0;
-    for p in proposals {
-        if T::from_proposal(*p).is_some() {
-            n += 1;
-        }
-    }
-    n
+    proposals
+        .iter()
+        .filter_map(|p| T::from_proposal(*p))
+        .count()
 }
 
 // How many records the proposals put into a list.
@@ -69,29 +76,20 @@ pub(crate) fn count_own(proposals: &[Proposal], list: ListName) -> usize
 }
 
 // The record of number `n` among those of the kind that are proposed.
-fn nth_proposed<T: Proposed + Drop>(proposals: &[Proposal], n: usize) -> Option<T>
-    ensures { result ≡ slice_get (picked T.held proposals.now) n }
+fn nth_proposed<T: Proposed>(proposals: &[Proposal], n: usize) -> Option<T>
+    ensures { result ≡ slice_get (filter_map T.held proposals.now) n }
 {
-    let mut left = n;
-    for p in proposals {
-        if let Some(x) = T::from_proposal(*p) {
-            if left == 0 {
-                return Some(x);
-            }
-            left -= 1;
-        }
-    }
-    None
+    proposals.iter().filter_map(|p| T::from_proposal(*p)).nth(n)
 }
 
 // The record of number `n` in a list of `count` records, of which `found` is that of number `n`, followed by those proposed.
-pub(crate) fn record_over<T: Proposed + Drop>(
+pub(crate) fn record_over<T: Proposed>(
     found: Option<T>,
     count: usize,
     proposals: &[Proposal],
     n: usize,
 ) -> Option<T>
-    ensures { (xs : List T) → found ≡ slice_get xs n → count ≡ length xs → result ≡ slice_get (xs ++ picked T.held proposals.now) n }
+    ensures { (xs : List T) → found ≡ slice_get xs n → count ≡ length xs → result ≡ slice_get (xs ++ filter_map T.held proposals.now) n }
 {
     if n < count {
         return found;

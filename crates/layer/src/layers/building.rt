@@ -1,15 +1,15 @@
 // Over a book a layer passes the building calls down.
 ghost use Rattle.std.specs.Prelude.{◌≡◌};
 ghost use Rattle.access.specs.Codes.{coded};
-ghost use Rattle.book.specs.Gathered.{called as outcome, said};
+ghost use Rattle.book.specs.Gathered.{called as outcome};
 ghost use Rattle.book.specs.Meaning.{lists_of};
 ghost use Rattle.catalogue.specs.Calls.{declared, linked, granted, joined, lined};
 ghost use Rattle.catalogue.specs.Sound.{Sound};
-ghost use Rattle.layer.specs.Stands.{stand_of, meant, new_stand};
+ghost use Rattle.layer.specs.Stands.{stand_of, meant, new_stand, PassedDown};
 
 use crate::layers::Layer;
-use access::{ObjectNumbers, Refusal};
-use book::{Answer, Book, Call, apply};
+use access::{EntityNumbers, LineNumbers, Link, Member, Refusal, RightNumbers};
+use book::{Book, Call, apply};
 
 impl Layer<Book> {
     // Makes the layer and the book below it as they were when they were new; the memory stays.
@@ -22,85 +22,51 @@ impl Layer<Book> {
     }
 
     // Passes down a building call. The answer is the book's, the proposals stay, and what was sound is.
-    pub(crate) fn build(&mut self, call: Call) -> Answer
-        ensures answer { said result ≡ (outcome (lists_of self.old.below) call).answer }
+    pub(crate) fn build(&mut self, call: Call) -> Result<usize, Refusal>
+        ensures answer { coded result ≡ (outcome (lists_of self.old.below) call).answer }
         ensures lists { lists_of self.new.below ≡ (outcome (lists_of self.old.below) call).lists }
-        ensures proposals { self.new.proposals ≡ self.old.proposals }
-        ensures sound { Sound (meant (stand_of self.old)) → Sound (meant (stand_of self.new)) }
+        ensures passed { PassedDown self.old self.new }
     {
         apply(&mut self.below, call)
     }
 
-    pub fn declare(&mut self, kind: u8, parent: u8, owner: u8, mode: u8) -> Result<usize, Refusal>
-        ensures answer { coded result ≡ (declared (lists_of self.old.below) kind parent owner mode).answer }
-        ensures lists { lists_of self.new.below ≡ (declared (lists_of self.old.below) kind parent owner mode).lists }
-        ensures proposals { self.new.proposals ≡ self.old.proposals }
-        ensures sound { Sound (meant (stand_of self.old)) → Sound (meant (stand_of self.new)) }
+    pub fn declare(&mut self, numbers: EntityNumbers) -> Result<usize, Refusal>
+        ensures answer { coded result ≡ (declared (lists_of self.old.below) numbers.kind numbers.parent numbers.owner numbers.mode).answer }
+        ensures lists { lists_of self.new.below ≡ (declared (lists_of self.old.below) numbers.kind numbers.parent numbers.owner numbers.mode).lists }
+        ensures passed { PassedDown self.old self.new }
     {
-        self.build(Call::Declare {
-            kind,
-            parent,
-            owner,
-            mode,
-        })
-        .result()
+        self.build(Call::Declare(numbers))
     }
 
-    pub fn link(&mut self, lower: u8, upper: u8) -> Result<usize, Refusal>
-        ensures answer { coded result ≡ (linked (lists_of self.old.below) lower upper).answer }
-        ensures lists { lists_of self.new.below ≡ (linked (lists_of self.old.below) lower upper).lists }
-        ensures proposals { self.new.proposals ≡ self.old.proposals }
-        ensures sound { Sound (meant (stand_of self.old)) → Sound (meant (stand_of self.new)) }
+    pub fn link(&mut self, link: Link) -> Result<usize, Refusal>
+        ensures answer { coded result ≡ (linked (lists_of self.old.below) link.lower link.upper).answer }
+        ensures lists { lists_of self.new.below ≡ (linked (lists_of self.old.below) link.lower link.upper).lists }
+        ensures passed { PassedDown self.old self.new }
     {
-        self.build(Call::Link { lower, upper }).result()
+        self.build(Call::Link(link))
     }
 
-    pub fn grant(
-        &mut self,
-        principal: u8,
-        entity: u8,
-        right: u8,
-        option: u8,
-    ) -> Result<usize, Refusal>
-        ensures answer { coded result ≡ (granted (lists_of self.old.below) principal entity right option).answer }
-        ensures lists { lists_of self.new.below ≡ (granted (lists_of self.old.below) principal entity right option).lists }
-        ensures proposals { self.new.proposals ≡ self.old.proposals }
-        ensures sound { Sound (meant (stand_of self.old)) → Sound (meant (stand_of self.new)) }
+    pub fn grant(&mut self, numbers: RightNumbers) -> Result<usize, Refusal>
+        ensures answer { coded result ≡ (granted (lists_of self.old.below) numbers.principal numbers.entity numbers.right numbers.option).answer }
+        ensures lists { lists_of self.new.below ≡ (granted (lists_of self.old.below) numbers.principal numbers.entity numbers.right numbers.option).lists }
+        ensures passed { PassedDown self.old self.new }
     {
-        self.build(Call::Grant {
-            principal,
-            entity,
-            right,
-            option,
-        })
-        .result()
+        self.build(Call::Grant(numbers))
     }
 
-    pub fn join(&mut self, account: u8, role: u8) -> Result<usize, Refusal>
-        ensures answer { coded result ≡ (joined (lists_of self.old.below) account role).answer }
-        ensures lists { lists_of self.new.below ≡ (joined (lists_of self.old.below) account role).lists }
-        ensures proposals { self.new.proposals ≡ self.old.proposals }
-        ensures sound { Sound (meant (stand_of self.old)) → Sound (meant (stand_of self.new)) }
+    pub fn join(&mut self, member: Member) -> Result<usize, Refusal>
+        ensures answer { coded result ≡ (joined (lists_of self.old.below) member.account member.role).answer }
+        ensures lists { lists_of self.new.below ≡ (joined (lists_of self.old.below) member.account member.role).lists }
+        ensures passed { PassedDown self.old self.new }
     {
-        self.build(Call::Join { account, role }).result()
+        self.build(Call::Join(member))
     }
 
-    pub fn line(
-        &mut self,
-        object: ObjectNumbers,
-        runner: u8,
-        called: ObjectNumbers,
-    ) -> Result<usize, Refusal>
-        ensures answer { coded result ≡ (lined (lists_of self.old.below) object runner called).answer }
-        ensures lists { lists_of self.new.below ≡ (lined (lists_of self.old.below) object runner called).lists }
-        ensures proposals { self.new.proposals ≡ self.old.proposals }
-        ensures sound { Sound (meant (stand_of self.old)) → Sound (meant (stand_of self.new)) }
+    pub fn line(&mut self, numbers: LineNumbers) -> Result<usize, Refusal>
+        ensures answer { coded result ≡ (lined (lists_of self.old.below) numbers.object numbers.runner numbers.called).answer }
+        ensures lists { lists_of self.new.below ≡ (lined (lists_of self.old.below) numbers.object numbers.runner numbers.called).lists }
+        ensures passed { PassedDown self.old self.new }
     {
-        self.build(Call::Line {
-            object,
-            runner,
-            called,
-        })
-        .result()
+        self.build(Call::Line(numbers))
     }
 }

@@ -1,12 +1,13 @@
 // Proposals come and go at the end.
 ghost use Rattle.std.specs.Prelude.{◌≡◌, [], length, IfOk, nat_lt};
 ghost use Rattle.access.specs.Codes.{coded};
+ghost use Rattle.catalogue.specs.Counts.{count_of};
 ghost use Rattle.catalogue.specs.Sound.{Sound};
 ghost use Rattle.layer.specs.Proposals.{over, added, proposed_right, proposed_member, withdrawn};
 
 use crate::layers::Layer;
 use crate::proposals::Proposal;
-use access::Refusal;
+use access::{Member, Refusal, RightNumbers};
 use catalogue::{Catalogue, ListName, judge_member, judge_right};
 use std::alloc::{AllocError, Global};
 
@@ -29,12 +30,15 @@ impl<C: Catalogue> Layer<C> {
         &self.below
     }
 
-    // Puts a proposal at the end, where its list has `count` records so far.
-    fn add(&mut self, count: usize, p: Proposal) -> Result<usize, Refusal>
-        ensures answer { coded result ≡ (added count self.old.proposals.items p).answer }
-        ensures proposals { self.new.proposals.items ≡ (added count self.old.proposals.items p).proposals }
+    // Puts a proposal at the end, where there is room for it there and in its list.
+    // Kept: soundness is a clause here and in the calls below, since what lies below may be any catalogue, sound or not.
+    fn put(&mut self, list: ListName, p: Proposal) -> Result<usize, Refusal>
+        requires { Sound (over (C.Catalogue.meaning self.old.below) self.old.proposals.items) }
+        ensures answer { coded result ≡ (added (count_of (over (C.Catalogue.meaning self.old.below) self.old.proposals.items) list) self.old.proposals.items p).answer }
+        ensures proposals { self.new.proposals.items ≡ (added (count_of (over (C.Catalogue.meaning self.old.below) self.old.proposals.items) list) self.old.proposals.items p).proposals }
         ensures below { self.new.below ≡ self.old.below }
     {
+        let count = self.count(list);
         let n = self.proposals.len();
         if n >= 16 || count >= 4096 {
             return Err(Refusal::Full);
@@ -43,71 +47,28 @@ impl<C: Catalogue> Layer<C> {
         Ok(n)
     }
 
-    // Judges a right, and puts it at the end where it is taken.
-    fn put_right(
-        &mut self,
-        principal: u8,
-        entity: u8,
-        right: u8,
-        option: u8,
-    ) -> Result<usize, Refusal>
-        requires { Sound (over (C.Catalogue.meaning self.old.below) self.old.proposals.items) }
-        ensures answer { coded result ≡ (proposed_right (C.Catalogue.meaning self.old.below) self.old.proposals.items principal entity right option).answer }
-        ensures proposals { self.new.proposals.items ≡ (proposed_right (C.Catalogue.meaning self.old.below) self.old.proposals.items principal entity right option).proposals }
-        ensures below { self.new.below ≡ self.old.below }
-    {
-        let x = judge_right(self, principal, entity, right, option)?;
-        let count = self.count(ListName::Rights);
-        self.add(count, Proposal::Right(x))
-    }
-
     // Proposes a right, and returns the number of the proposal.
-    pub fn propose_right(
-        &mut self,
-        principal: u8,
-        entity: u8,
-        right: u8,
-        option: u8,
-    ) -> Result<usize, Refusal>
+    pub fn propose_right(&mut self, numbers: RightNumbers) -> Result<usize, Refusal>
         requires { Sound (over (C.Catalogue.meaning self.old.below) self.old.proposals.items) }
-        ensures answer { coded result ≡ (proposed_right (C.Catalogue.meaning self.old.below) self.old.proposals.items principal entity right option).answer }
-        ensures proposals { self.new.proposals.items ≡ (proposed_right (C.Catalogue.meaning self.old.below) self.old.proposals.items principal entity right option).proposals }
+        ensures answer { coded result ≡ (proposed_right (C.Catalogue.meaning self.old.below) self.old.proposals.items numbers.principal numbers.entity numbers.right numbers.option).answer }
+        ensures proposals { self.new.proposals.items ≡ (proposed_right (C.Catalogue.meaning self.old.below) self.old.proposals.items numbers.principal numbers.entity numbers.right numbers.option).proposals }
         ensures below { self.new.below ≡ self.old.below }
         ensures sound { Sound (over (C.Catalogue.meaning self.new.below) self.new.proposals.items) }
     {
-        self.put_right(principal, entity, right, option)
-    }
-
-    // Judges a member, and puts it at the end where it is taken.
-    fn put_member(&mut self, account: u8, role: u8) -> Result<usize, Refusal>
-        requires { Sound (over (C.Catalogue.meaning self.old.below) self.old.proposals.items) }
-        ensures answer { coded result ≡ (proposed_member (C.Catalogue.meaning self.old.below) self.old.proposals.items account role).answer }
-        ensures proposals { self.new.proposals.items ≡ (proposed_member (C.Catalogue.meaning self.old.below) self.old.proposals.items account role).proposals }
-        ensures below { self.new.below ≡ self.old.below }
-    {
-        let x = judge_member(self, account, role)?;
-        let count = self.count(ListName::Members);
-        self.add(count, Proposal::Member(x))
+        let x = judge_right(self, numbers)?;
+        self.put(ListName::Rights, Proposal::Right(x))
     }
 
     // Proposes a member, and returns the number of the proposal.
-    pub fn propose_member(&mut self, account: u8, role: u8) -> Result<usize, Refusal>
+    pub fn propose_member(&mut self, member: Member) -> Result<usize, Refusal>
         requires { Sound (over (C.Catalogue.meaning self.old.below) self.old.proposals.items) }
-        ensures answer { coded result ≡ (proposed_member (C.Catalogue.meaning self.old.below) self.old.proposals.items account role).answer }
-        ensures proposals { self.new.proposals.items ≡ (proposed_member (C.Catalogue.meaning self.old.below) self.old.proposals.items account role).proposals }
+        ensures answer { coded result ≡ (proposed_member (C.Catalogue.meaning self.old.below) self.old.proposals.items member.account member.role).answer }
+        ensures proposals { self.new.proposals.items ≡ (proposed_member (C.Catalogue.meaning self.old.below) self.old.proposals.items member.account member.role).proposals }
         ensures below { self.new.below ≡ self.old.below }
         ensures sound { Sound (over (C.Catalogue.meaning self.new.below) self.new.proposals.items) }
     {
-        self.put_member(account, role)
-    }
-
-    // Drops the latest proposal, and says whether there was one.
-    fn drop_latest(&mut self) -> bool
-        ensures answer { result ≡ nat_lt 0 (length self.old.proposals.items) }
-        ensures proposals { self.new.proposals.items ≡ withdrawn self.old.proposals.items }
-        ensures below { self.new.below ≡ self.old.below }
-    {
-        self.proposals.pop().is_some()
+        let x = judge_member(self, member)?;
+        self.put(ListName::Members, Proposal::Member(x))
     }
 
     // Takes back the latest proposal, and says whether there was one.
@@ -117,7 +78,7 @@ impl<C: Catalogue> Layer<C> {
         ensures below { self.new.below ≡ self.old.below }
         ensures sound { Sound (over (C.Catalogue.meaning self.old.below) self.old.proposals.items) → Sound (over (C.Catalogue.meaning self.new.below) self.new.proposals.items) }
     {
-        self.drop_latest()
+        self.proposals.pop().is_some()
     }
 
     // Takes back every proposal; the memory stays.

@@ -1,18 +1,12 @@
-use Rattle.std.proofs.Common.{vec_items}
-use Rattle.layer.specs.Proposals.{withdrawn}
-use Rattle.layer.proofs.Stays.{withdrawn_sound, sound_same}
+use Rattle.std.proofs.Common.{◌≡◌, vec_items, sym, subst, rules}
+use Rattle.catalogue.specs.Sound.{Sound}
+use Rattle.layer.specs.Proposals.{over, withdrawn}
+use Rattle.layer.proofs.Stays.{withdrawn_sound}
 use Rattle.layer.proofs.layers.Layer.withdraw.Goals as goal
 
-pub returns : goal.returns
-returns g c =
-    let m = g.C.Catalogue.meaning in
-    let old = c.args.self.now in
-    let new = c.drop_latest.new.self in
-    let e = c.drop_latest.ensures in
-    let ps = vec_items old.proposals in
-    record {
-      answer = e.answer;
-      proposals = e.proposals;
-      below = e.below;
-      sound = λ s. sound_same m old.below new.below (withdrawn ps) (vec_items new.proposals) e.below e.proposals (withdrawn_sound (m old.below) ps s);
-    }
+pub returns-clause-sound : goal.returns-clause-sound
+returns-clause-sound g c s =
+    let l = g.C.Catalogue.meaning c.args.self.now.below in
+    let ps = vec_items c.args.self.now.proposals in
+    let left : vec_items c.pop.new.self ≡ withdrawn ps = search rules in
+    subst (λ qs. Sound (over l qs)) (sym left) (withdrawn_sound l ps s)

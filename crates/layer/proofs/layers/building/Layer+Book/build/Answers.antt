@@ -8,6 +8,5 @@ returns c =
     record {
       answer = e.answer;
       lists = e.lists;
-      proposals = refl;
-      sound = built_sound c.args.self.now c.apply.new.book c.args.call e.lists;
+      passed = record { proposals = refl; sound = built_sound c.args.self.now c.apply.new.book c.args.call e.lists };
     }

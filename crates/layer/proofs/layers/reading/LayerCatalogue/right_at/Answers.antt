@@ -1,9 +1,0 @@
-use Rattle.std.proofs.Common.{vec_items}
-use Rattle.layer.proofs.Over.{sound_below}
-use Rattle.layer.proofs.layers.reading.LayerCatalogue.right_at.Goals as goal
-
-pub count-count-requires : goal.count-count-requires
-count-count-requires g c = sound_below (g.C.Catalogue.meaning c.args.self.now.below) (vec_items c.args.self.now.proposals) c.requires
-
-pub right_at-requires : goal.right_at-requires
-right_at-requires g c = sound_below (g.C.Catalogue.meaning c.args.self.now.below) (vec_items c.args.self.now.proposals) c.requires
