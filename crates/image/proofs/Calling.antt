@@ -1,6 +1,6 @@
 -- The building call that a record is: what it makes of bytes that it takes as new, and that it takes each record of a book.
 use Rattle.std.proofs.Common.{◌≡◌, ℕ, suc, ◌<◌, ◌≤◌, Bool, true, false, cond, not, ◌&&◌, ◌||◌, eqb, List, [], ◌∷◌, ◌++◌, length, is_some, is_ok, Some, None, Ok, Err, Option, Result, unwrap_or, sym, refl, ap, ◌∙◌, arith}
-use Rattle.std.proofs.lemmas.Bool.{not-false, and_parts, and_from, or_from, false≢true}
+use Rattle.std.proofs.lemmas.Bool.{not-false, and_parts, and_from, or_from}
 use Rattle.access.specs.declared.entities.Kind.{Kind}
 use Rattle.access.specs.declared.entities.Mode.{Mode}
 use Rattle.access.specs.declared.entities.Mode.TheVariants.{Creator}
@@ -11,7 +11,7 @@ use Rattle.access.specs.declared.roles.Link.{Link}
 use Rattle.access.specs.declared.roles.Member.{Member}
 use Rattle.access.specs.declared.code.Object.{Object}
 use Rattle.access.specs.declared.code.Object.TheVariants as object
-use Rattle.access.specs.declared.code.ObjectNumbers.{ObjectNumbers}
+use Rattle.access.specs.declared.numbers.ObjectNumbers.{ObjectNumbers}
 use Rattle.access.specs.declared.code.Runner.{Runner}
 use Rattle.access.specs.declared.code.Runner.TheVariants as runner
 use Rattle.access.specs.declared.code.Action.{Action}
@@ -33,7 +33,8 @@ use Rattle.book.specs.Gathered.{called}
 use Rattle.image.specs.Bytes.{option_number, entity_bytes, link_bytes, right_bytes, member_bytes, line_bytes, numbers_of, called_by}
 use Rattle.image.specs.Reading.{byte, is_new, call_of, numbers_at}
 use Rattle.catalogue.specs.declared.names.ListName.TheVariants.{Entities, Links, Rights, Members, Lines}
-use Rattle.image.proofs.CodeLaws.{kind_there, mode_there, right_there, option_there, kind_back, mode_back, right_back, option_back, some_of, runner_back, runner_there, fits_stands, object_there, object_back}
+use Rattle.image.proofs.CodeLaws.{kind_back, mode_back, right_back, option_back, some_of, runner_back, object_back}
+use Rattle.image.specs.Decoded.{kind_there, mode_there, right_there, option_there, runner_there, fits_stands, object_there}
 use Rattle.image.proofs.Pushing.{placed_new, placed_last, pushed, raised_last}
 
 -- bytes by their places
@@ -68,20 +69,20 @@ pub record Made {X : Type 0} (bytes : X → List ℕ) (put : X → Lists) (b : L
 new_ok : {X : Type 0} (bytes : X → List ℕ) (put : X → Lists) (b : List ℕ) (k : ℕ) (l : Lists) (f : X → Outcome) (j : Result X Code)
     → ((x : X) → j ≡ Ok x → bytes x ≡ b) → ((x : X) → is_new (f x).answer k ≡ true → (f x).lists ≡ put x)
     → is_new (unless l f j).answer k ≡ true → Made bytes put b (unless l f j).lists
-new_ok bytes put b k l f (Err c) code push new = let no : ⊥ = false≢true new in absurd no
+new_ok bytes put b k l f (Err c) code push new = absurd cc
 new_ok bytes put b k l f (Ok x) code push new = record { item = x; coded = code x refl; lists = push x new }
 
 -- Entities
 
 mode_some : (k : Kind) (o : Option Mode) → mode_for k o ≡ true → o ≡ Some (unwrap_or o Creator)
-mode_some k None e = let no : ⊥ = false≢true e in absurd no
+mode_some k None e = absurd cc
 mode_some k (Some m) e = refl
 
 entity_code : (es : List Entity) (n p o m : ℕ) (x : Entity) → judged_entity es n p o m ≡ Ok x → entity_bytes x ≡ n ∷ p ∷ o ∷ m ∷ []
 entity_code es n p o m x j = go (kind_at n) refl j
   where
     go : (a : Option Kind) → kind_at n ≡ a → judged_kind es p o (mode_at m) a ≡ Ok x → entity_bytes x ≡ n ∷ p ∷ o ∷ m ∷ []
-    go None ek e = let z : ◌≡◌ {A = ℕ} 0 1 = cc in let no : ⊥ = omega arith in absurd no
+    go None ek e = absurd cc
     go (Some k) ek e =
         let ok = judged_ok (entity_reasons es p o (mode_at m) k) (entity_named p o (mode_at m) k) x e in
         let listed = and_parts (mode_for k (mode_at m)) (stands es p && (stands es o || own_number es o k)) (not-false _ ok.0.0) in
@@ -96,7 +97,7 @@ entity_made l b w new =
 
 ok_is : {X : Type 0} (r : Result X Code) → is_ok r ≡ true → (x : X) × (r ≡ Ok x)
 ok_is (Ok x) e = (x, refl)
-ok_is (Err c) e = let no : ⊥ = false≢true e in absurd no
+ok_is (Err c) e = absurd cc
 
 pub entity_taken : (l : Lists) (x : Entity) → TakesEntity l.entities x
     → called l (call_of Entities (entity_bytes x)) ≡ record { answer = Ok (length l.entities); lists = with_entities l (l.entities ++ x ∷ []) }
@@ -105,9 +106,7 @@ entity_taken l x t =
     let (y, e) = ok_is (judged_kind es x.parent x.owner (Some x.mode) (Some x.kind)) t in
     let same : x ≡ y = (judged_ok (entity_reasons es x.parent x.owner (Some x.mode) x.kind) (entity_named x.parent x.owner (Some x.mode) x.kind) y e).1 in
     let j : judged_entity es (kind_number x.kind) x.parent x.owner (mode_number x.mode) ≡ Ok x =
-    ap (λ m. judged_kind es x.parent x.owner m (kind_at (kind_number x.kind))) (mode_there x.mode)
-    ∙ ap (λ k. judged_kind es x.parent x.owner (Some x.mode) k) (kind_there x.kind)
-    ∙ e ∙ ap Ok (sym same) in
+    rw (mode_there x.mode, kind_there x.kind) (e ∙ ap Ok (sym same)) in
     ap (unless l (λ y. record { answer = Ok (length es); lists = with_entities l (es ++ y ∷ []) })) j
 
 -- rows of which none applies
@@ -178,9 +177,7 @@ right_taken l x t fresh room =
     let listed : (is_some (right_at a) && (is_some (option_at o) && (stands es x.principal && stands es x.entity))) ≡ true =
     and_from _ _ (ap is_some (right_there x.right))
     (and_from _ _ (ap is_some (option_there x.option)) (and_from _ _ (fits_stands is_principal es x.principal t.0) t.1)) in
-    let named : right_named x.principal x.entity a o ≡ x =
-    ap (λ r. record { principal = x.principal; entity = x.entity; right = unwrap_or r Select; option = unwrap_or (option_at o) false }) (right_there x.right)
-    ∙ ap (λ r. record { principal = x.principal; entity = x.entity; right = x.right; option = unwrap_or r false }) (option_there x.option) in
+    let named : right_named x.principal x.entity a o ≡ x = rw (right_there x.right, option_there x.option) in
     let j : judged_right es x.principal x.entity a o ≡ Ok x =
     one_row (is_some (right_at a) && (is_some (option_at o) && (stands es x.principal && stands es x.entity))) _ _ listed
     ∙ one_row (fits is_principal es x.principal) _ _ t.0
@@ -221,8 +218,8 @@ line_code es m r n c j = go (object_at m) (object_at n) refl refl j
   where
     go : (a b : Option Object) → object_at m ≡ a → object_at n ≡ b → judged_objects es a (runner_at r) b ≡ Ok c
         → line_bytes c ≡ m.kind ∷ m.entity ∷ m.right ∷ r ∷ n.kind ∷ n.entity ∷ n.right ∷ []
-    go None b ea eb e = let z : ◌≡◌ {A = ℕ} 0 1 = cc in let no : ⊥ = omega arith in absurd no
-    go (Some x) None ea eb e = let z : ◌≡◌ {A = ℕ} 0 1 = cc in let no : ⊥ = omega arith in absurd no
+    go None b ea eb e = absurd cc
+    go (Some x) None ea eb e = absurd cc
     go (Some x) (Some y) ea eb e =
         let named = (judged_ok (line_reasons es x (runner_at r) y) (line_named x (runner_at r) y) c e).1 in
         ap line_bytes (sym named)
@@ -240,7 +237,7 @@ line_made l b w new =
 object_stands : (es : List Entity) (x : Object) → object_fits es x ≡ true → stands es (place_of x) ≡ true
 object_stands es (object.Procedure e) h = fits_stands is_procedure es e h
 object_stands es (object.Triggers e v) h = fits_stands is_table es e h
-object_stands es (object.Created e) h = let no : ⊥ = false≢true h in absurd no
+object_stands es (object.Created e) h = absurd cc
 
 runner_stands_lem : (es : List Entity) (r : Runner) → runner_fits es r ≡ true → runner_stands es r ≡ true
 runner_stands_lem es runner.Caller h = refl
@@ -251,17 +248,15 @@ line_judged : (es : List Entity) (x : Object) (r : Runner) (y : Object) → leng
     → judged_line es (numbers_of x) (runner_number r) (numbers_of y) ≡ Ok (line_named x r y)
 line_judged es x r y few fx fr fy =
     let standing = and_from _ _ (object_stands es x fx) (and_from _ _ (runner_stands_lem es r fr) (object_stands es y fy)) in
-    ap (λ a. judged_objects es a (runner_at (runner_number r)) (object_at (numbers_of y))) (object_there es x fx)
-    ∙ ap (λ q. judged_objects es (Some x) q (object_at (numbers_of y))) (runner_there es r few fr)
-    ∙ ap (λ b. judged_objects es (Some x) r b) (object_there es y fy)
-    ∙ one_row (stands es (place_of x) && (runner_stands es r && stands es (place_of y))) _ _ standing
-    ∙ one_row (object_fits es x && (runner_fits es r && object_fits es y)) _ _ (and_from _ _ fx (and_from _ _ fr fy))
+    rw (object_there es x fx, runner_there es r few fr, object_there es y fy)
+    (one_row (stands es (place_of x) && (runner_stands es r && stands es (place_of y))) _ _ standing
+    ∙ one_row (object_fits es x && (runner_fits es r && object_fits es y)) _ _ (and_from _ _ fx (and_from _ _ fr fy)))
 
 line_named_lem : (es : List Entity) (a : Action) (x : Object) (r : Runner) → length es ≤ 96 → TakesLine es (record { object = x; runner = r; action = a })
     → judged_line es (numbers_of x) (runner_number r) (numbers_of (called_by a)) ≡ Ok (record { object = x; runner = r; action = a })
 line_named_lem es (action.Call y) x r few t = line_judged es x r y few t.0 t.1 t.2
-line_named_lem es (action.Grant g) x r few t = let no : ⊥ = false≢true t.2 in absurd no
-line_named_lem es (action.Join m) x r few t = let no : ⊥ = false≢true t.2 in absurd no
+line_named_lem es (action.Grant g) x r few t = absurd cc
+line_named_lem es (action.Join m) x r few t = absurd cc
 
 pub line_taken : (l : Lists) (x : Line) → length l.entities ≤ 96 → TakesLine l.entities x → position (λ y. same_line y x) l.lines ≡ None → length l.lines < 256
     → called l (call_of Lines (line_bytes x)) ≡ record { answer = Ok (length l.lines); lists = with_lines l (l.lines ++ x ∷ []) }

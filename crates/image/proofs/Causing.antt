@@ -1,19 +1,19 @@
 -- The first fault has a cause.
 use Rattle.std.proofs.Common.{◌≡◌, ℕ, zero, suc, ◌+◌, ◌-◌, ◌*◌, ◌<◌, Bool, true, false, cond, eqb, ltb, ◌⊎◌, List, [], ◌∷◌, ◌++◌, length, drop, Ok, Err, Result, sym, refl, ap, ◌∙◌, inl, inr, append_assoc, arith}
 use Rattle.std.proofs.lemmas.List.{length_push}
-use Rattle.std.proofs.lemmas.Bool.{ltb-true, eqb-true, eqb-false, eq-eqb, le-leb, and_from, both_ways, false≢true}
+use Rattle.std.proofs.lemmas.Bool.{ltb-true, eqb-true, eqb-false, eq-eqb, le-leb, and_from, both_ways}
 use Rattle.access.specs.declared.entities.Entity.{Entity}
 use Rattle.access.specs.Codes.{Code}
 use Rattle.access.specs.Lists.{Lists, new_entities, new_lists}
 use Rattle.catalogue.specs.declared.names.ListName.{ListName}
 use Rattle.image.specs.Layout.{in_order, index_of, part_of, width_of, least_of, most_of}
 use Rattle.image.specs.Bytes.{entity_bytes}
-use Rattle.image.specs.Reading.{fault, and_then, start_at, count_at, entry_fits, entry_end, end_after, contents_end, same_at, first_at, firsts_from, firsts, is_new, first_call, body_in, built_from, built_part, built_parts, read_lists}
+use Rattle.image.specs.Reading.{fault, and_then, steps, start_at, count_at, entry_fits, entry_end, end_after, contents_end, same_at, first_at, firsts_from, firsts, is_new, first_call, body_in, built_from, built_part, built_parts, read_lists}
 use Rattle.image.proofs.Entries.{then_ok}
 use Rattle.image.specs.Causes.{answer_at, FirstNot, Cause, short, entry, total, other, later}
 
 never : {X : Type 0} (x : X) (c : Code) → ◌≡◌ {A = Result X Code} (Ok x) (Err c) → ⊥
-never x c e = let z : ◌≡◌ {A = ℕ} 0 1 = cc in omega arith
+never x c e = cc
 
 err_same : {X : Type 0} (a b : Code) → ◌≡◌ {A = Result X Code} (Err a) (Err b) → b ≡ a
 err_same a b e = cc
@@ -37,11 +37,12 @@ then_then : {X Y Z : Type 0} (r : Result X Code) (f : X → Result Z Code) (g : 
 then_then (Ok x) f g h e = e x
 then_then (Err c) f g h e = refl
 
--- The contents
+-- one step more
+steps_push : {X : Type 0} (f : ListName → X → Result X Code) (ps : List ListName) (p : ListName) (x : X) → steps f (ps ++ p ∷ []) x ≡ and_then (steps f ps x) (f p)
+steps_push f [] p x = then_end (f p x)
+steps_push f (q ∷ ps) p x = then_then (f q x) (steps f (ps ++ p ∷ [])) (steps f ps) (f p) (λ y. steps_push f ps p y)
 
-end_push : (bytes : List ℕ) (ps : List ListName) (p : ListName) (at : ℕ) → end_after bytes (ps ++ p ∷ []) at ≡ and_then (end_after bytes ps at) (entry_end bytes p)
-end_push bytes [] p at = then_end (entry_end bytes p at)
-end_push bytes (q ∷ ps) p at = then_then (entry_end bytes q at) (end_after bytes (ps ++ p ∷ [])) (end_after bytes ps) (entry_end bytes p) (λ e. end_push bytes ps p e)
+-- The contents
 
 entry_cause : (bytes : List ℕ) (c : Code) (before ps : List ListName) (at : ℕ) → in_order ≡ before ++ ps → end_after bytes before 20 ≡ Ok at → end_after bytes ps at ≡ Err c → Cause bytes c
 entry_cause bytes c before [] at whole e f = absurd (never at c f)
@@ -53,7 +54,7 @@ entry_cause bytes c before (p ∷ ps) at whole e f = elim (then_err (entry_end b
       off.1
   | inr (end, h) ↦
       entry_cause bytes c (before ++ p ∷ []) ps end (whole ∙ sym (append_assoc before (p ∷ []) ps))
-      (end_push bytes before p 20 ∙ ap (λ r. and_then r (entry_end bytes p)) e ∙ h.0) h.1
+      (steps_push (entry_end bytes) before p 20 ∙ ap (λ r. and_then r (entry_end bytes p)) e ∙ h.0) h.1
 ]
 
 contents_cause : (bytes : List ℕ) (c : Code) → contents_end bytes ≡ Err c → Cause bytes c
@@ -97,7 +98,7 @@ module _ (bytes : List ℕ) (c : Code) (end : ℕ) (good : contents_end bytes �
 
 new_is : (a : Result ℕ Code) (k : ℕ) → is_new a k ≡ true → a ≡ Ok k
 new_is (Ok n) k e = ap Ok (eqb-true n k e)
-new_is (Err c) k e = let no : ⊥ = false≢true e in absurd no
+new_is (Err c) k e = absurd cc
 
 is_new_lem : (a : Result ℕ Code) (k : ℕ) → a ≡ Ok k → is_new a k ≡ true
 is_new_lem a k e = ap (λ r. is_new r k) e ∙ eq-eqb k k refl
@@ -148,10 +149,6 @@ record_cause p c (suc n) rest l k e =
     found_either p c rest l k (is_new (first_call p rest l).answer k) _ refl e
     (λ f. record_cause p c n (drop (width_of p) rest) (first_call p rest l).lists (k + 1) f)
 
-parts_push : (bytes : List ℕ) (ps : List ListName) (p : ListName) (l : Lists) → built_parts bytes (ps ++ p ∷ []) l ≡ and_then (built_parts bytes ps l) (built_part bytes p)
-parts_push bytes [] p l = then_end (built_part bytes p l)
-parts_push bytes (q ∷ ps) p l = then_then (built_part bytes q l) (built_parts bytes (ps ++ p ∷ [])) (built_parts bytes ps) (built_part bytes p) (λ m. parts_push bytes ps p m)
-
 module _ (bytes : List ℕ) (c : Code) (end : ℕ) (good : contents_end bytes ≡ Ok end) (first : firsts bytes ≡ Ok tt) where
   parts_cause : (before ps : List ListName) (l : Lists) → in_order ≡ before ++ ps → built_parts bytes before new_lists ≡ Ok l → built_parts bytes ps l ≡ Err c → Cause bytes c
   parts_cause before [] l whole e f = absurd (never l c f)
@@ -161,7 +158,7 @@ module _ (bytes : List ℕ) (c : Code) (end : ℕ) (good : contents_end bytes �
         later end before ps p l f.place good first whole e f.first f.named
     | inr (m, h) ↦
         parts_cause (before ++ p ∷ []) ps m (whole ∙ sym (append_assoc before (p ∷ []) ps))
-        (parts_push bytes before p new_lists ∙ ap (λ r. and_then r (built_part bytes p)) e ∙ h.0) h.1
+        (steps_push (built_part bytes) before p new_lists ∙ ap (λ r. and_then r (built_part bytes p)) e ∙ h.0) h.1
   ]
 
 pub caused : (bytes : List ℕ) (c : Code) → read_lists bytes ≡ Err c → Cause bytes c

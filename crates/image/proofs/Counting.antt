@@ -1,6 +1,6 @@
 -- How many records and bytes the lists of a book have.
 use Rattle.std.proofs.Common.{◌≡◌, ℕ, zero, suc, ◌+◌, ◌*◌, ◌<◌, ◌≤◌, List, [], ◌∷◌, ◌++◌, map, length, get_or, drop, sym, refl, ap, ◌∙◌, suc-mul, arith}
-use Rattle.std.specs.List.{slice_get, flat_map}
+use Rattle.std.specs.List.{slice_get, flat_map, sum_by}
 use Rattle.std.proofs.lemmas.List.{length-append, length-map, drop_more, drop_all}
 use Rattle.access.specs.Lists.{Lists}
 use Rattle.catalogue.specs.declared.names.ListName.{ListName}
@@ -14,6 +14,7 @@ use Rattle.book.specs.Meaning.{lists_of}
 use Rattle.image.specs.Layout.{in_order, width_of, least_of, most_of}
 use Rattle.image.specs.Bytes.{entity_bytes, link_bytes, right_bytes, member_bytes, line_bytes, records_of, strung, bytes_or, record_at}
 use Rattle.image.specs.Encoding.{entry_bytes, entries_from, end_from, body_of, contents, bodies, encode}
+use Rattle.std.proofs.lemmas.List.Folds.{flat_map-map}
 
 pub kept_most : (l : Lists) → Kept l → (p : ListName) → count_of l p ≤ most_of p
 kept_most l k Entities = entities_few l.entities k.entities
@@ -32,7 +33,7 @@ kept_least l k Lines = omega arith
 pub book_kept : (b : Book) → Kept (lists_of b)
 book_kept b = kept_out (lists_of b) b.kept
 
-body_small : (p : ListName) (n : ℕ) → n ≤ most_of p → n * width_of p ≤ 1792
+pub body_small : (p : ListName) (n : ℕ) → n ≤ most_of p → n * width_of p ≤ 1792
 body_small Entities n h = omega arith
 body_small Links n h = omega arith
 body_small Rights n h = omega arith
@@ -89,8 +90,7 @@ body_is l p = refl
 -- the bytes of all records together
 
 pub joined_map : {X : Type 0} (f : X → List ℕ) (xs : List X) → strung (map f xs) ≡ flat_map f xs
-joined_map f [] = refl
-joined_map f (x ∷ xs) = ap (λ bs. f x ++ bs) (joined_map f xs)
+joined_map f xs = flat_map-map (λ b. b) f xs
 
 pub joined_length : {X : Type 0} (f : X → List ℕ) (w : ℕ) → ((x : X) → length (f x) ≡ w) → (xs : List X) → length (flat_map f xs) ≡ length xs * w
 joined_length f w h [] = sym (omega arith)
@@ -119,10 +119,6 @@ end_bodies l at (p ∷ ps) =
     end_bodies l (at + count_of l p * width_of p) ps
     ∙ omega (arith, body_length l p, length-append (body_of l p) (flat_map (body_of l) ps))
 
-pub contents_is : (l : Lists) → entries_from l 20 in_order ≡ contents l
-unfolding contents
-contents_is l = refl
-
 pub contents_length : (l : Lists) → length (contents l) ≡ 20
 unfolding contents
 contents_length l = refl
@@ -141,16 +137,12 @@ encode_bodies l = ap length (encode_is l) ∙ length-append (contents l) (bodies
 pub encode_length : (l : Lists) → length (encode l) ≡ end_from l 20 in_order
 encode_length l = encode_bodies l ∙ ap (λ bs. 20 + length bs) (sym (bodies_is l)) ∙ sym (end_bodies l 20 in_order)
 
-pub end_long : (l : Lists) → 20 ≤ end_from l 20 in_order
-end_long l = omega (arith, encode_length l, encode_bodies l)
+pub encode_sum : (l : Lists) → length (encode l) ≡ 20 + sum_by (λ p. count_of l p * width_of p) in_order
+encode_sum l = encode_length l ∙ omega arith
 
 -- one list more, whatever stands past the last
 
 module _ (l : Lists) (ps : List ListName) (i : ℕ) (d : ListName) (h : i < length ps) where
-  pub end_more : (end n : ℕ) → n ≡ count_of l (get_or ps i d) * width_of (get_or ps i d) → end_from l (end + n) (drop (i + 1) ps) ≡ end_from l end (drop i ps)
-  end_more end n e =
-      ap (λ m. end_from l (end + m) (drop (i + 1) ps)) e ∙ sym (ap (end_from l end) (drop_more ps i d h))
-
   pub entries_more : (start n : ℕ) → n ≡ count_of l (get_or ps i d) * width_of (get_or ps i d)
       → entries_from l start (drop i ps) ≡ entry_bytes start (count_of l (get_or ps i d)) ++ entries_from l (start + n) (drop (i + 1) ps)
   entries_more start n e =
@@ -159,13 +151,3 @@ module _ (l : Lists) (ps : List ListName) (i : ℕ) (d : ListName) (h : i < leng
 
   pub bodies_more : flat_map (body_of l) (drop i ps) ≡ body_of l (get_or ps i d) ++ flat_map (body_of l) (drop (i + 1) ps)
   bodies_more = ap (flat_map (body_of l)) (drop_more ps i d h)
-
-module _ (l : Lists) (ps : List ListName) (i : ℕ) (h : length ps ≤ i) where
-  pub end_all : (end : ℕ) → end_from l end (drop i ps) ≡ end
-  end_all end = ap (end_from l end) (drop_all i ps h)
-
-  pub entries_all : (start : ℕ) → entries_from l start (drop i ps) ≡ []
-  entries_all start = ap (entries_from l start) (drop_all i ps h)
-
-  pub bodies_all : flat_map (body_of l) (drop i ps) ≡ []
-  bodies_all = ap (flat_map (body_of l)) (drop_all i ps h)

@@ -14,15 +14,15 @@ module _ {X : Type 0} where
   -- a test that gave a value
   pub cond_ok : (b : Bool) (x y : X) (f : Code) → cond {A = Result X Code} b (Ok x) (Err f) ≡ Ok y → (b ≡ true) × (x ≡ y)
   cond_ok true x y f e = (refl, cc)
-  cond_ok false x y f e = let z : ◌≡◌ {A = ℕ} 0 1 = cc in let no : ⊥ = omega arith in absurd no
+  cond_ok false x y f e = absurd cc
 
   cond_past : (b : Bool) (f : Code) (rest : Result X Code) (y : X) → cond b (Err f) rest ≡ Ok y → (b ≡ false) × (rest ≡ Ok y)
-  cond_past true f rest y e = let z : ◌≡◌ {A = ℕ} 0 1 = cc in let no : ⊥ = omega arith in absurd no
+  cond_past true f rest y e = absurd cc
   cond_past false f rest y e = (refl, e)
 
 pub then_ok : {X Y : Type 0} (r : Result X Code) (f : X → Result Y Code) (y : Y) → and_then r f ≡ Ok y → (x : X) × ((r ≡ Ok x) × (f x ≡ Ok y))
 then_ok (Ok x) f y e = (x, (refl, e))
-then_ok (Err c) f y e = let z : ◌≡◌ {A = ℕ} 0 1 = cc in let no : ⊥ = omega arith in absurd no
+then_ok (Err c) f y e = absurd cc
 
 -- an entry that is right, between the end of the body before and the end of its own
 pub record Entry (bytes : List ℕ) (p : ListName) (at end : ℕ) : Type 0 where

@@ -1,7 +1,7 @@
 -- The records of a body: those taken as new stand in the order of their bytes, and those of a book are all taken.
 use Rattle.std.proofs.Common.{◌≡◌, ℕ, zero, suc, ◌+◌, ◌*◌, ◌≤◌, Bool, true, false, cond, List, [], ◌∷◌, ◌++◌, length, take, drop, Ok, Err, Result, sym, refl, ap, ◌∙◌, append_assoc, suc-mul, zero-mul, arith}
 use Rattle.std.specs.List.{flat_map}
-use Rattle.std.proofs.lemmas.List.{append-nil, length_push, length-drop, length-take-le, drop-take, take-take, take-append-drop, take_at, drop_at}
+use Rattle.std.proofs.lemmas.List.{append-nil, length_push, length-drop, length-take-le, take_at, drop_at}
 use Rattle.std.proofs.lemmas.Bool.{eq-eqb}
 use Rattle.access.specs.Codes.{Code}
 use Rattle.access.specs.Lists.{Lists}
@@ -12,6 +12,7 @@ use Rattle.book.specs.Gathered.{called}
 use Rattle.image.specs.Layout.{width_of, part_of}
 use Rattle.image.specs.Reading.{call_of, first_call, is_new, built_from, fault}
 use Rattle.image.proofs.Calling.{Made}
+use Rattle.std.proofs.Math.Seq.{take-add}
 
 -- one of the five lists, with the bytes of its records
 pub record Table (X : Type 0) : Type 0 where
@@ -23,17 +24,11 @@ pub record Table (X : Type 0) : Type 0 where
   pub get_put : (l : Lists) (xs : List X) → get (put l xs) ≡ xs
   pub put_put : (l : Lists) (xs ys : List X) → put (put l xs) ys ≡ put l ys
 
-pub take_add : (w m : ℕ) (xs : List ℕ) → take (w + m) xs ≡ take w xs ++ take m (drop w xs)
-take_add w m xs =
-    sym (take-append-drop w (take (w + m) xs))
-    ∙ ap (λ ys. ys ++ drop w (take (w + m) xs)) (take-take w (w + m) xs (omega arith))
-    ∙ ap (λ ys. take w xs ++ ys) (drop-take w m xs)
-
 row_on : {X : Type 0} (b : Bool) (rest : Result X Code) (f : Code) (y : X) → cond b rest (Err f) ≡ Ok y → (b ≡ true) × (rest ≡ Ok y)
 row_on true rest f y e = (refl, e)
-row_on false rest f y e = let z : ◌≡◌ {A = ℕ} 0 1 = cc in let no : ⊥ = omega arith in absurd no
+row_on false rest f y e = absurd cc
 
-ok_same : (l m : Lists) → ◌≡◌ {A = Result Lists Code} (Ok l) (Ok m) → l ≡ m
+pub ok_same : (l m : Lists) → ◌≡◌ {A = Result Lists Code} (Ok l) (Ok m) → l ≡ m
 ok_same l m e = cc
 
 module _ {X : Type 0} (t : Table X) where
@@ -83,7 +78,7 @@ module _ {X : Type 0} (t : Table X) where
       ap (λ i. i + 1) same ∙ sym (ap length (ap t.get one.lists ∙ t.get_put l _) ∙ length_push (t.get l) one.item) in
       let inner = fed makes n m (k + 1) after (drop w rest) longer (omega (arith, length-drop w rest)) on.1 in
       fed_more l m after n (take w rest) (take (n * w) (drop w rest)) _ one inner
-      (sym (take_add w (n * w) rest) ∙ ap (λ i. take i rest) (omega arith))
+      (sym (take-add w (n * w) rest) ∙ ap (λ i. take i rest) (omega arith))
 
   -- a record's call on lists with some records takes it as new
   abbrev pub New : Lists → List X → X → Type 0

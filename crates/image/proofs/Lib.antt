@@ -1,3 +1,4 @@
+pub mod Widths
 pub mod Writing
 pub mod Counting
 pub mod CodeLaws

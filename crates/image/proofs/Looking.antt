@@ -1,60 +1,81 @@
--- A reader that means sound lists reads, and finds each record where it stands.
-use Rattle.std.proofs.Common.{◌≡◌, ℕ, zero, suc, ◌+◌, ◌*◌, ◌<◌, ◌≤◌, true, false, List, [], ◌∷◌, ◌++◌, map, length, take, drop, is_some, Some, None, Ok, Err, Option, Result, unwrap_or, sym, refl, ap, ◌∙◌, subst, suc-mul, add_comm, zero-mul, arith}
+-- A reader finds each record where it stands.
+use Rattle.std.proofs.Common.{◌≡◌, ℕ, zero, suc, ◌+◌, ◌*◌, ◌<◌, ◌≤◌, true, List, [], ◌∷◌, ◌++◌, map, length, take, drop, is_some, Some, None, Ok, Err, Option, Result, unwrap_or, sym, refl, ap, ◌∙◌, subst, suc-mul, add_comm, zero-mul, arith}
 use Rattle.std.specs.List.{slice_get}
 use Rattle.std.specs.Result.{result_ok}
-use Rattle.std.proofs.lemmas.List.{drop-drop, take_at, drop_at}
-use Rattle.std.proofs.lemmas.Bool.{false≢true}
+use Rattle.std.proofs.lemmas.List.{drop-drop, length-drop, length-take-le, take_at, drop_at}
 use Rattle.access.specs.declared.refusals.Refusal.{Refusal}
-use Rattle.access.specs.declared.entities.Kind.TheVariants.{Container}
-use Rattle.access.specs.declared.entities.Mode.TheVariants.{Creator}
-use Rattle.access.specs.declared.entities.Entity.{Entity}
-use Rattle.access.specs.declared.rights.Right.TheVariants.{Select}
-use Rattle.access.specs.declared.rights.RightRecord.{RightRecord}
-use Rattle.access.specs.declared.code.Object.{Object}
-use Rattle.access.specs.declared.code.Object.TheVariants as object
-use Rattle.access.specs.declared.code.Action.{Action}
-use Rattle.access.specs.declared.code.Action.TheVariants as action
-use Rattle.access.specs.declared.code.Line.{Line}
 use Rattle.access.specs.Codes.{Code, code}
 use Rattle.access.specs.Lists.{Lists}
-use Rattle.access.specs.Numbers.{mode_at, mode_number, option_at, runner_at, runner_number}
 use Rattle.catalogue.specs.declared.names.ListName.{ListName}
 use Rattle.catalogue.specs.declared.names.ListName.TheVariants.{Entities, Links, Rights, Members, Lines}
 use Rattle.catalogue.specs.Counts.{count_of}
-use Rattle.catalogue.specs.Judgements.{line_named, object_fits}
-use Rattle.catalogue.specs.Sound.{TakesLine, call_fits, Sound, Kept}
+use Rattle.catalogue.specs.Sound.{Sound, Kept}
 use Rattle.catalogue.proofs.Keeping.{kept_sound}
+use Rattle.catalogue.proofs.Unique.{kept_out}
 use Rattle.image.specs.declared.images.Image.{Image}
 use Rattle.image.specs.Layout.{width_of, most_of}
-use Rattle.image.specs.Bytes.{option_number, entity_bytes, link_bytes, right_bytes, member_bytes, line_bytes, numbers_of, strung, bytes_or, record_at}
+use Rattle.image.specs.Bytes.{entity_bytes, link_bytes, right_bytes, member_bytes, line_bytes, strung, bytes_or, record_at}
 use Rattle.image.specs.Encoding.{body_of, encode}
-use Rattle.image.specs.Reading.{count_at, body_in, read_lists, AllLaid}
-use Rattle.image.specs.Decoding.{entity_of, right_of, object_of, line_of}
-use Rattle.image.specs.Readers.{no_lists, lists_in, Reads, Fails}
-use Rattle.image.proofs.CodeLaws.{kind_there, mode_there, right_there, option_there, runner_there, object_there}
+use Rattle.image.specs.Reading.{count_at, body_in, read_lists, no_lists, lists_in, AllLaid}
+use Rattle.image.specs.Readers.{image_lists, Reads, Fails}
 use Rattle.image.proofs.Causing.{caused}
-use Rattle.image.proofs.Counting.{body_length}
-use Rattle.image.proofs.Entries.{Good, laid, reads_passed}
-use Rattle.image.proofs.ReadBack.{Bytes, Read, read_read, read_back}
+use Rattle.image.proofs.Counting.{kept_most, body_length, body_small}
+use Rattle.image.proofs.Entries.{laid, Passed, reads_passed}
+use Rattle.image.proofs.ReadBack.{Bytes, read_read, read_back}
 use Rattle.image.proofs.WriteRead.{write_reads}
+use Rattle.image.proofs.Feeding.{ok_same}
+use Rattle.image.proofs.Widths.{within}
+
+-- What a reader means
+
+kept_ok : (r : Result Lists Code) → Kept (unwrap_or (result_ok r) no_lists) → r ≡ Ok (unwrap_or (result_ok r) no_lists)
+kept_ok (Ok l) k = refl
+kept_ok (Err e) k = let no : ⊥ = omega (arith, ap length k.entities.first) in absurd no
+
+module _ (i : Image) where
+  pub image_kept : Kept (image_lists i)
+  image_kept = kept_out (image_lists i) i.kept
+
+  pub image_sound : Sound (image_lists i)
+  image_sound = kept_sound (image_lists i) image_kept
+
+  passed : Passed i.bytes.now (image_lists i)
+  passed = reads_passed i.bytes.now (image_lists i) (kept_ok (read_lists i.bytes.now) image_kept)
+
+  pub image_laid : AllLaid i.bytes.now
+  image_laid = laid i.bytes.now passed.good
+
+  pub image_count : (p : ListName) → count_at i.bytes.now p ≡ count_of (image_lists i) p
+  image_count p = sym ((read_read i.bytes.now (image_lists i) passed).count p)
+
+  pub image_body : (p : ListName) → body_in p i.bytes.now ≡ body_of (image_lists i) p
+  image_body p = sym ((read_read i.bytes.now (image_lists i) passed).body p)
+
+  pub image_few : (p : ListName) → count_of (image_lists i) p ≤ most_of p
+  image_few p = kept_most (image_lists i) image_kept p
 
 -- What reading gives
 
-ok_same : (l m : Lists) → ◌≡◌ {A = Result Lists Code} (Ok l) (Ok m) → l ≡ m
-ok_same l m e = cc
+module _ (bytes : List ℕ) (l : Lists) (k : Kept l) (e : Ok l ≡ read_lists bytes) where
+  lists_are : lists_in bytes ≡ l
+  lists_are = ap (λ r. unwrap_or (result_ok r) no_lists) (sym e)
 
-pub image_reads : (i : Image) (l : Lists) → Bytes i.bytes.now → Kept l → Ok l ≡ read_lists i.bytes.now → Reads i i.bytes.now
-image_reads i l small k f =
-    let bytes = i.bytes.now in
-    let e : read_lists bytes ≡ Ok l = sym f in
-    let same : lists_in bytes ≡ l = ap (λ r. unwrap_or (result_ok r) no_lists) e in
+  pub read_kept : Kept (lists_in bytes)
+  read_kept = subst Kept (sym lists_are) k
+
+  pub read_written : Bytes bytes → encode (lists_in bytes) ≡ bytes
+  read_written small = ap encode lists_are ∙ read_back bytes l small (sym e)
+
+pub image_reads : (i : Image) → Reads i i.bytes.now
+image_reads i =
+    let e = kept_ok (read_lists i.bytes.now) (image_kept i) in
     record {
       place = refl;
-      lists = e ∙ ap Ok (sym same);
-      kept = subst Kept (sym same) k;
-      sound = subst Sound (sym same) (kept_sound l k);
-      image = ap encode same ∙ read_back bytes l small e;
-      only = λ m h g. ok_same m (lists_in bytes) (sym (write_reads m h) ∙ ap read_lists g ∙ e ∙ ap Ok (sym same));
+      lists = e;
+      kept = image_kept i;
+      sound = image_sound i;
+      image = i.written;
+      only = λ m h g. ok_same m (image_lists i) (sym (write_reads m h) ∙ ap read_lists g ∙ e);
     }
 
 pub image_fails : (r : Refusal) (bytes : List ℕ) → Err (code r) ≡ read_lists bytes → Fails r bytes
@@ -66,34 +87,6 @@ image_fails r bytes f = record {
       let z : ◌≡◌ {A = ℕ} 0 1 = cc in
       omega arith;
 }
-
--- What a reader means
-
-sound_ok : (r : Result Lists Code) → Sound (unwrap_or (result_ok r) no_lists) → r ≡ Ok (unwrap_or (result_ok r) no_lists)
-sound_ok (Ok l) s = refl
-sound_ok (Err e) s = let no : ⊥ = omega (arith, ap length s.entities.first) in absurd no
-
-module _ (bytes : List ℕ) (s : Sound (lists_in bytes)) where
-  pub sound_reads : read_lists bytes ≡ Ok (lists_in bytes)
-  sound_reads = sound_ok (read_lists bytes) s
-
-  reader_good : Good bytes
-  reader_good = (reads_passed bytes (lists_in bytes) sound_reads).good
-
-  pub reader_laid : AllLaid bytes
-  reader_laid = laid bytes reader_good
-
-  reader_read : Read bytes (lists_in bytes)
-  reader_read = read_read bytes (lists_in bytes) (reads_passed bytes (lists_in bytes) sound_reads)
-
-  pub reader_count : (p : ListName) → count_at bytes p ≡ count_of (lists_in bytes) p
-  reader_count p = sym (reader_read.count p)
-
-  pub reader_body : (p : ListName) → body_in p bytes ≡ body_of (lists_in bytes) p
-  reader_body p = sym (reader_read.body p)
-
-  pub reader_small : (p : ListName) → count_of (lists_in bytes) p ≤ most_of p
-  reader_small p = omega (arith, reader_count p, (reader_laid p).most)
 
 -- The bytes of a record
 
@@ -117,22 +110,16 @@ record_in l Rights n h = at_strung right_bytes 4 (λ x. refl) l.rights n h
 record_in l Members n h = at_strung member_bytes 2 (λ x. refl) l.members n h
 record_in l Lines n h = at_strung line_bytes 7 (λ x. refl) l.lines n h
 
-within : (p : ListName) (n c : ℕ) → n < c → n * width_of p + width_of p ≤ c * width_of p
-within Entities n c h = omega arith
-within Links n c h = omega arith
-within Rights n c h = omega arith
-within Members n c h = omega arith
-within Lines n c h = omega arith
-
 pub record_inside : (l : Lists) (p : ListName) (n : ℕ) → n < count_of l p → n * width_of p + width_of p ≤ length (body_of l p)
-record_inside l p n h = omega (arith, within p n (count_of l p) h, body_length l p)
+record_inside l p n h = omega (arith, within n (count_of l p) (width_of p) h, body_length l p)
+
+pub record_long : (l : Lists) (p : ListName) (n : ℕ) → n < count_of l p → length (record_at l p n) ≡ width_of p
+record_long l p n h =
+    let rest = drop (n * width_of p) (body_of l p) in
+    ap length (sym (record_in l p n h)) ∙ length-take-le (width_of p) rest (omega (arith, length-drop (n * width_of p) (body_of l p), record_inside l p n h))
 
 pub record_small : (p : ListName) (n c : ℕ) → n < c → c ≤ most_of p → n * width_of p + width_of p ≤ 1792
-record_small Entities n c h m = omega arith
-record_small Links n c h m = omega arith
-record_small Rights n c h m = omega arith
-record_small Members n c h m = omega arith
-record_small Lines n c h m = omega arith
+record_small p n c h m = omega (arith, within n c (width_of p) h, body_small p c m)
 
 -- The record that bytes are
 
@@ -141,41 +128,13 @@ below_some [] n h = let no : ⊥ = omega arith in absurd no
 below_some (x ∷ xs) zero h = refl
 below_some (x ∷ xs) (suc n) h = below_some xs n (omega arith)
 
-module _ {X : Type 0} (f : X → List ℕ) (xs : List X) (n : ℕ) (h : n < length xs) where
-  pub record_wide : (w : ℕ) → ((x : X) → length (f x) ≡ w) → length (bytes_or f (slice_get xs n)) ≡ w
-  record_wide w wide = go (slice_get xs n) (below_some xs n h)
-    where
-      go : (o : Option X) → is_some o ≡ true → length (bytes_or f o) ≡ w
-      go None e = let no : ⊥ = false≢true e in absurd no
-      go (Some x) e = wide x
+pub none_past : {X : Type 0} (xs : List X) (n : ℕ) → n < length xs → None ≡ slice_get xs n → ⊥
+none_past xs n h e = let t = below_some xs n h in let f = ap is_some e in cc
 
+module _ {X : Type 0} (f : X → List ℕ) (xs : List X) (n : ℕ) (h : n < length xs) where
   pub record_is : (decode : List ℕ → X) → ((x : X) → slice_get xs n ≡ Some x → decode (f x) ≡ x) → Some (decode (bytes_or f (slice_get xs n))) ≡ slice_get xs n
   record_is decode back = go (slice_get xs n) refl (below_some xs n h)
     where
       go : (o : Option X) → slice_get xs n ≡ o → is_some o ≡ true → Some (decode (bytes_or f o)) ≡ o
-      go None e s = let no : ⊥ = false≢true s in absurd no
+      go None e s = absurd cc
       go (Some x) e s = ap Some (back x e)
-
-pub entity_back : (x : Entity) → entity_of (entity_bytes x) ≡ x
-entity_back x =
-    ap (λ o. record { kind = unwrap_or o Container; parent = x.parent; owner = x.owner; mode = unwrap_or (mode_at (mode_number x.mode)) Creator }) (kind_there x.kind)
-    ∙ ap (λ o. record { kind = x.kind; parent = x.parent; owner = x.owner; mode = unwrap_or o Creator }) (mode_there x.mode)
-
-pub right_is : (x : RightRecord) → right_of (right_bytes x) ≡ x
-right_is x =
-    ap (λ o. record { principal = x.principal; entity = x.entity; right = unwrap_or o Select; option = unwrap_or (option_at (option_number x.option)) false }) (right_there x.right)
-    ∙ ap (λ o. record { principal = x.principal; entity = x.entity; right = x.right; option = unwrap_or o false }) (option_there x.option)
-
-object_is : (es : List Entity) (x : Object) → object_fits es x ≡ true → object_of (numbers_of x) ≡ x
-object_is es x h = ap (λ o. unwrap_or o (object.Procedure 0)) (object_there es x h)
-
-pub line_is : (es : List Entity) (x : Line) → length es ≤ 96 → TakesLine es x → line_of (line_bytes x) ≡ x
-line_is es x few t = go x.action t.2
-  where
-    go : (a : Action) → call_fits es a ≡ true → line_of (line_bytes (record { object = x.object; runner = x.runner; action = a })) ≡ record { object = x.object; runner = x.runner; action = a }
-    go (action.Call y) h =
-        ap (λ o. line_named o (runner_at (runner_number x.runner)) (object_of (numbers_of y))) (object_is es x.object t.0)
-        ∙ ap (λ r. line_named x.object r (object_of (numbers_of y))) (runner_there es x.runner few t.1)
-        ∙ ap (λ o. line_named x.object x.runner o) (object_is es y h)
-    go (action.Grant g) h = let no : ⊥ = false≢true h in absurd no
-    go (action.Join m) h = let no : ⊥ = false≢true h in absurd no

@@ -3,7 +3,7 @@ use Rattle.std.proofs.Common.{◌≡◌, ℕ, suc, ◌<◌, ◌≤◌, Bool, tru
 use Rattle.std.specs.List.{AllByRecursion}
 use Rattle.std.specs.Option.{option_map}
 use Rattle.std.proofs.lemmas.List.{set_at, append_assoc, length-append}
-use Rattle.std.proofs.lemmas.Bool.{eqb-true, lt-ltb, false≢true}
+use Rattle.std.proofs.lemmas.Bool.{eqb-true, lt-ltb}
 use Rattle.access.specs.declared.refusals.Refusal.TheVariants.{Full}
 use Rattle.access.specs.declared.rights.RightRecord.{RightRecord}
 use Rattle.access.specs.Codes.{Code, code}
@@ -14,12 +14,12 @@ use Rattle.catalogue.proofs.Standing.{nth_last}
 use Rattle.image.specs.Reading.{is_new}
 
 mapped_suc : (o : Option ℕ) (n : ℕ) → option_map suc o ≡ Some n → (m : ℕ) × ((o ≡ Some m) × (suc m ≡ n))
-mapped_suc None n e = let z : ◌≡◌ {A = ℕ} 0 1 = cc in let no : ⊥ = omega arith in absurd no
+mapped_suc None n e = absurd cc
 mapped_suc (Some m) n e = (m, (refl, cc))
 
 module _ {X : Type 0} where
   position_within : (test : X → Bool) (xs : List X) (n : ℕ) → position test xs ≡ Some n → n < length xs
-  position_within test [] n e = let z : ◌≡◌ {A = ℕ} 0 1 = cc in let no : ⊥ = omega arith in absurd no
+  position_within test [] n e = absurd cc
   position_within test (x ∷ xs) n e =
       let P : Bool → Type 0 = λ b. cond b (Some 0) (option_map suc (position test xs)) ≡ Some n → n < suc (length xs) in
       (elim (test x) as P [
@@ -34,7 +34,7 @@ module _ {X : Type 0} where
   cond_pushed : (b : Bool) (xs : List X) (x : X) (k : ℕ) → is_new (cond {A = Result ℕ Code × List X} b (pushed xs x) (Err (code Full), xs)).0 k ≡ true
       → cond b (pushed xs x) (Err (code Full), xs) ≡ pushed xs x
   cond_pushed true xs x k new = refl
-  cond_pushed false xs x k new = let no : ⊥ = false≢true new in absurd no
+  cond_pushed false xs x k new = absurd cc
 
   -- a record whose number is the next was not there
   pub placed_new : (alike : X → X → Bool) (limit : ℕ) (xs : List X) (x : X) → is_new (placed alike limit xs x).0 (length xs) ≡ true → placed alike limit xs x ≡ pushed xs x

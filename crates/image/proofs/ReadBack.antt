@@ -1,5 +1,5 @@
 -- Bytes that read are the image of the lists that they read as.
-use Rattle.std.proofs.Common.{◌≡◌, ℕ, ◌+◌, ◌-◌, ◌*◌, ◌/◌, ◌%◌, ◌<◌, ◌≤◌, true, List, [], ◌∷◌, ◌++◌, length, take, drop, Ok, Result, sym, refl, ap, ◌∙◌, subst, append_assoc, arith}
+use Rattle.std.proofs.Common.{◌≡◌, ℕ, ◌+◌, ◌-◌, ◌*◌, ◌/◌, ◌%◌, ◌<◌, ◌≤◌, true, List, [], ◌∷◌, ◌++◌, length, take, drop, Ok, sym, refl, ap, ◌∙◌, subst, arith}
 use Rattle.std.specs.List.{flat_map}
 use Rattle.std.proofs.lemmas.List.{drop_more, drop-drop, drop_all, take_all, take-append-drop, length-append, length-drop, take-take}
 use Rattle.std.proofs.lemmas.Bool.{eqb-true, and_parts}
@@ -8,7 +8,6 @@ use Rattle.access.specs.declared.rights.RightRecord.{RightRecord}
 use Rattle.access.specs.declared.roles.Link.{Link}
 use Rattle.access.specs.declared.roles.Member.{Member}
 use Rattle.access.specs.declared.code.Line.{Line}
-use Rattle.access.specs.Codes.{Code}
 use Rattle.access.specs.Lists.{Lists, new_entities, new_lists}
 use Rattle.catalogue.specs.declared.names.ListName.{ListName}
 use Rattle.catalogue.specs.declared.names.ListName.TheVariants.{Entities, Links, Rights, Members, Lines}
@@ -20,8 +19,11 @@ use Rattle.image.specs.Encoding.{entry_bytes, body_of, contents, bodies, encode}
 use Rattle.image.specs.Reading.{byte, fault, start_at, count_at, body_in, built_part, same_at, first_at, firsts_from, firsts, read_lists, Laid}
 use Rattle.image.proofs.Counting.{body_is, joined_map, encode_is}
 use Rattle.image.proofs.Calling.{entity_made, link_made, right_made, member_made, line_made}
-use Rattle.image.proofs.Feeding.{Table, Makes, Fed, fed, take_add}
+use Rattle.image.proofs.Feeding.{Table, Makes, Fed, fed, ok_same}
 use Rattle.image.proofs.Entries.{then_ok, cond_ok, Entry, Good, laid, firsts_inside, cut, body_long, Passed, reads_passed}
+use Rattle.image.proofs.Widths.{two_parts}
+use Rattle.std.proofs.Math.Seq.{take-add}
+use Rattle.std.proofs.lemmas.Grind.{flat_map-append}
 
 -- the five lists
 
@@ -43,11 +45,7 @@ line_table = record { list = Lines; get = λ l. l.lines; put = with_lines; bytes
 -- The bodies
 
 pub less_wide : (p : ListName) (c : ℕ) → least_of p ≤ c → (c - least_of p) * width_of p ≡ c * width_of p - least_of p * width_of p
-less_wide Entities c h = omega arith
-less_wide Links c h = omega arith
-less_wide Rights c h = omega arith
-less_wide Members c h = omega arith
-less_wide Lines c h = omega arith
+less_wide p c h = omega (arith, two_parts (least_of p) c (width_of p) h)
 
 -- the records that a body added
 part_fed : {X : Type 0} (t : Table X) → Makes t → (bytes : List ℕ) (l after : Lists) → Laid bytes t.list → least_of t.list ≡ length (t.get l)
@@ -61,10 +59,6 @@ part_fed t makes bytes l after h same e =
     length-drop (least_of p * width_of p) (body_in p bytes) ∙ ap (λ m. m - least_of p * width_of p) (body_long bytes p h) ∙ sym (less_wide p (count_at bytes p) h.least) in
     let f = fed t makes n l (least_of p) after rest same (omega arith) e in
     record { items = f.items; lists = f.lists; coded = f.coded ∙ take_all (n * width_of p) rest (omega arith); count = f.count }
-
-joined_append : {X : Type 0} (f : X → List ℕ) (xs ys : List X) → flat_map f (xs ++ ys) ≡ flat_map f xs ++ flat_map f ys
-joined_append f [] ys = refl
-joined_append f (x ∷ xs) ys = ap (λ zs. f x ++ zs) (joined_append f xs ys) ∙ sym (append_assoc (f x) (flat_map f xs) (flat_map f ys))
 
 -- the first entities
 
@@ -103,7 +97,7 @@ firsts_from_lem bytes k (x ∷ es) u h e =
     let n : length (x ∷ es) * 4 ≡ 4 + length es * 4 = omega arith in
     let place : (20 + k * 4) + 4 ≡ 20 + (k + 1) * 4 = omega arith in
     ap (λ i. take i (drop (20 + k * 4) bytes)) n
-    ∙ take_add 4 (length es * 4) (drop (20 + k * 4) bytes)
+    ∙ take-add 4 (length es * 4) (drop (20 + k * 4) bytes)
     ∙ ap (λ bs. take 4 (drop (20 + k * 4) bytes) ++ take (length es * 4) bs) (drop-drop 4 (20 + k * 4) bytes ∙ ap (λ i. drop i bytes) place)
     ∙ ap (λ bs. take 4 (drop (20 + k * 4) bytes) ++ bs) rest
     ∙ ap (λ bs. bs ++ flat_map entity_bytes es) four
@@ -125,9 +119,6 @@ pub record Read (bytes : List ℕ) (l : Lists) : Type 0 where
 abbrev pub stood : List Entity → List Link → List RightRecord → List Member → List Line → Lists
 stood es ks rs ms cs = record { entities = new_entities ++ es; links = ks; rights = rs; members = ms; lines = cs }
 
-ok_same : (l m : Lists) → ◌≡◌ {A = Result Lists Code} (Ok l) (Ok m) → l ≡ m
-ok_same l m e = cc
-
 -- the lists by their records
 read_stood : (bytes : List ℕ) (es : List Entity) (ks : List Link) (rs : List RightRecord) (ms : List Member) (cs : List Line) (l : Lists) → l ≡ stood es ks rs ms cs
     → flat_map entity_bytes new_entities ++ flat_map entity_bytes es ≡ body_in Entities bytes → flat_map link_bytes ks ≡ body_in Links bytes → flat_map right_bytes rs ≡ body_in Rights bytes
@@ -138,7 +129,7 @@ read_stood bytes es ks rs ms cs l e b0 b1 b2 b3 b4 c0 c1 c2 c3 c4 =
     subst (Read bytes) (sym e) (record { body = body; count = count })
   where
     body : (p : ListName) → body_of (stood es ks rs ms cs) p ≡ body_in p bytes
-    body Entities = sym (body_is (stood es ks rs ms cs) Entities) ∙ joined_map entity_bytes (new_entities ++ es) ∙ joined_append entity_bytes new_entities es ∙ b0
+    body Entities = sym (body_is (stood es ks rs ms cs) Entities) ∙ joined_map entity_bytes (new_entities ++ es) ∙ flat_map-append entity_bytes new_entities es ∙ b0
     body Links = sym (body_is (stood es ks rs ms cs) Links) ∙ joined_map link_bytes ks ∙ b1
     body Rights = sym (body_is (stood es ks rs ms cs) Rights) ∙ joined_map right_bytes rs ∙ b2
     body Members = sym (body_is (stood es ks rs ms cs) Members) ∙ joined_map member_bytes ms ∙ b3

@@ -1,19 +1,19 @@
 -- The steps of reading a body, and of reading the bodies.
-use Rattle.std.proofs.Common.{◌≡◌, ℕ, suc, ◌+◌, ◌-◌, ◌*◌, ◌<◌, ◌≤◌, Bool, true, false, cond, List, length, get_or, drop, Ok, Err, Result, sym, refl, ap, ◌∙◌, arith}
-use Rattle.std.proofs.lemmas.List.{drop_more, drop_all}
+use Rattle.std.proofs.Common.{◌≡◌, ℕ, suc, ◌+◌, ◌-◌, ◌*◌, ◌<◌, ◌≤◌, Bool, true, false, cond, List, length, get_or, take, drop, Ok, Err, Result, sym, refl, ap, ◌∙◌, arith, eqb}
+use Rattle.std.proofs.lemmas.List.{drop_more}
 use Rattle.access.specs.Codes.{Code}
 use Rattle.access.specs.Lists.{Lists, new_lists}
 use Rattle.catalogue.specs.declared.names.ListName.{ListName}
-use Rattle.catalogue.specs.declared.names.ListName.TheVariants.{Entities, Links, Rights, Members, Lines}
-use Rattle.image.specs.Layout.{in_order, width_of, least_of, part_of}
-use Rattle.image.specs.Reading.{fault, and_then, first_call, is_new, new_or, built_from, built_part, built_parts, contents_end, firsts, read_lists}
+use Rattle.image.specs.Layout.{in_order, width_of, part_of}
+use Rattle.image.specs.Reading.{fault, and_then, first_call, is_new, new_or, built_from, built_parts, contents_end, firsts, read_lists, steps, end_after}
+use Rattle.std.proofs.lemmas.Bool.{le-ltb}
 
 new_on : (b : Bool) (f : Code) (u : Unit {0}) → Ok u ≡ cond b (Ok tt) (Err f) → b ≡ true
 new_on true f u e = refl
-new_on false f u e = let z : ◌≡◌ {A = ℕ} 0 1 = cc in let no : ⊥ = omega arith in absurd no
+new_on false f u e = absurd cc
 
 new_off : (b : Bool) (f r : Code) → Err r ≡ cond {A = Result (Unit {0}) Code} b (Ok tt) (Err f) → (b ≡ false) × (r ≡ f)
-new_off true f r e = let z : ◌≡◌ {A = ℕ} 0 1 = cc in let no : ⊥ = omega arith in absurd no
+new_off true f r e = absurd cc
 new_off false f r e = (refl, cc)
 
 module _ (p : ListName) (rest : List ℕ) (l : Lists) (k count : ℕ) (answer : Result ℕ Code) (h : k < count) (came : answer ≡ (first_call p rest l).answer) where
@@ -38,22 +38,23 @@ module _ (p : ListName) (rest : List ℕ) (l : Lists) (k count : ℕ) (answer : 
       let no = new_off (is_new answer k) (fault (part_of p) k) r e in
       ap Err no.1 ∙ sym (built_step false no.0)
 
-pub built_all : (p : ListName) (rest : List ℕ) (l : Lists) (k count : ℕ) → count ≤ k → Ok l ≡ built_from p rest l k (count - k)
-built_all p rest l k count h = let n : count - k ≡ 0 = omega arith in sym (ap (built_from p rest l k) n)
+-- one list after another
 
--- one body after another
+module _ {X : Type 0} (f : ListName → X → Result X Code) (ps : List ListName) (i : ℕ) where
+  pub steps_on : (d : ListName) (x y : X) → i < length ps → Ok y ≡ f (get_or ps i d) x → steps f (drop (i + 1) ps) y ≡ steps f (drop i ps) x
+  steps_on d x y h e = ap (λ r. and_then r (steps f (drop (i + 1) ps))) e ∙ sym (ap (λ qs. steps f qs x) (drop_more ps i d h))
 
-module _ (bytes : List ℕ) (ps : List ListName) (i : ℕ) (d : ListName) (l : Lists) (h : i < length ps) where
-  pub parts_on : (m : Lists) → Ok m ≡ built_part bytes (get_or ps i d) l → built_parts bytes (drop (i + 1) ps) m ≡ built_parts bytes (drop i ps) l
-  parts_on m e =
-      ap (λ s. and_then s (built_parts bytes (drop (i + 1) ps))) e ∙ sym (ap (λ qs. built_parts bytes qs l) (drop_more ps i d h))
+  pub steps_off : (d : ListName) (x : X) (c : Code) → i < length ps → Err c ≡ f (get_or ps i d) x → Err c ≡ steps f (drop i ps) x
+  steps_off d x c h e = ap (λ r. and_then r (steps f (drop (i + 1) ps))) e ∙ sym (ap (λ qs. steps f qs x) (drop_more ps i d h))
 
-  pub parts_off : (r : Code) → Err r ≡ built_part bytes (get_or ps i d) l → Err r ≡ built_parts bytes (drop i ps) l
-  parts_off r e =
-      ap (λ s. and_then s (built_parts bytes (drop (i + 1) ps))) e ∙ sym (ap (λ qs. built_parts bytes qs l) (drop_more ps i d h))
+-- the contents
 
-pub parts_all : (bytes : List ℕ) (ps : List ListName) (i : ℕ) (l : Lists) → length ps ≤ i → Ok l ≡ built_parts bytes (drop i ps) l
-parts_all bytes ps i l h = sym (ap (λ qs. built_parts bytes qs l) (drop_all i ps h))
+module _ (bytes : List ℕ) (long : 20 ≤ length bytes) where
+  contents_is : contents_end bytes ≡ and_then (end_after bytes in_order 20) (λ end. cond (eqb (length bytes) end) (Ok end) (Err (fault 0 5)))
+  contents_is = ap (λ b. cond b (Err (fault 0 5)) (and_then (end_after bytes in_order 20) (λ end. cond (eqb (length bytes) end) (Ok end) (Err (fault 0 5))))) (le-ltb (length bytes) 20 long)
+
+  pub contents_off : (c : Code) → Err c ≡ end_after bytes in_order 20 → Err c ≡ contents_end bytes
+  contents_off c e = ap (λ r. and_then r (λ end. cond (eqb (length bytes) end) (Ok end) (Err (fault 0 5)))) e ∙ sym contents_is
 
 -- the whole
 
@@ -73,17 +74,8 @@ read_rest bytes n u e f =
     ap (λ s. and_then s (λ _. built_parts bytes in_order new_lists)) f
     ∙ ap (λ s. and_then s (λ _. and_then (firsts bytes) (λ _. built_parts bytes in_order new_lists))) e
 
--- the bytes of the records that are left
-pub left_one : (p : ListName) (k count : ℕ) → k < count → (count - k) * width_of p ≡ (count - (k + 1)) * width_of p + width_of p
-left_one Entities k count h = omega arith
-left_one Links k count h = omega arith
-left_one Rights k count h = omega arith
-left_one Members k count h = omega arith
-left_one Lines k count h = omega arith
-
-pub least_inside : (p : ListName) (count : ℕ) → least_of p ≤ count → least_of p * width_of p ≤ count * width_of p
-least_inside Entities count h = omega arith
-least_inside Links count h = omega arith
-least_inside Rights count h = omega arith
-least_inside Members count h = omega arith
-least_inside Lines count h = omega arith
+-- record k of a body
+pub record_cut : (p : ListName) (k w : ℕ) (body bytes : List ℕ) → w ≡ width_of p → body ≡ bytes → take ((k * w + w) - k * w) (drop (k * w) body) ≡ take (width_of p) (drop (k * width_of p) bytes)
+record_cut p k w body bytes ew e =
+    let n : (k * w + w) - k * w ≡ w = omega arith in
+    ap (λ i. take i (drop (k * w) body)) n ∙ ap (λ v. take v (drop (k * v) body)) ew ∙ ap (λ b. take (width_of p) (drop (k * width_of p) b)) e

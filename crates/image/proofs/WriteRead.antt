@@ -23,7 +23,7 @@ use Rattle.catalogue.proofs.Declaring.{entities_few}
 use Rattle.image.specs.Layout.{in_order, index_of, width_of, least_of, most_of}
 use Rattle.image.specs.Bytes.{entity_bytes, link_bytes, right_bytes, member_bytes, line_bytes}
 use Rattle.image.specs.Encoding.{end_from, body_of, contents, bodies, encode}
-use Rattle.image.specs.Reading.{fault, and_then, start_at, count_at, entry_fits, entry_end, end_after, contents_end, body_in, firsts, built_from, built_part, built_parts, read_lists}
+use Rattle.image.specs.Reading.{fault, and_then, start_at, count_at, entry_fits, entry_end, end_after, contents_end, body_in, firsts, built_from, built_part, read_lists}
 use Rattle.image.proofs.Counting.{kept_least, kept_most, body_is, joined_map, body_length, bodies_is, contents_length, encode_is, encode_length, encode_bodies}
 use Rattle.image.proofs.Pushing.{came_new, all_turns}
 use Rattle.image.proofs.Calling.{LinkNext, entity_taken, link_taken, right_taken, member_taken, line_taken}
@@ -74,11 +74,7 @@ contents_ok : (l : Lists) → Kept l → contents_end (encode l) ≡ Ok (end_fro
 contents_ok l k =
     let bytes = encode l in
     let all : end_after bytes in_order 20 ≡ Ok (end_from l 20 in_order) =
-    ap (λ r. and_then r (end_after bytes (Links ∷ Rights ∷ Members ∷ Lines ∷ []))) (entry_ok l k Entities)
-    ∙ ap (λ r. and_then r (end_after bytes (Rights ∷ Members ∷ Lines ∷ []))) (entry_ok l k Links)
-    ∙ ap (λ r. and_then r (end_after bytes (Members ∷ Lines ∷ []))) (entry_ok l k Rights)
-    ∙ ap (λ r. and_then r (end_after bytes (Lines ∷ []))) (entry_ok l k Members)
-    ∙ ap (λ r. and_then r (end_after bytes [])) (entry_ok l k Lines) in
+    rw (entry_ok l k Entities, entry_ok l k Links, entry_ok l k Rights, entry_ok l k Members, entry_ok l k Lines) in
     let long : ltb (length bytes) 20 ≡ false = le-ltb (length bytes) 20 (omega (arith, encode_bodies l)) in
     let last : Result ℕ Code = and_then (end_after bytes in_order 20) (λ end. cond (eqb (length bytes) end) (Ok end) (Err (fault 0 5))) in
     ap (λ b. cond b (Err (fault 0 5)) last) long
@@ -210,14 +206,7 @@ module _ (es : List Entity) (ks : List Link) (rs : List RightRecord) (ms : List 
   stood_reads : read_lists (encode whole) ≡ Ok whole
   unfolding read_lists
   stood_reads =
-      let bytes = encode whole in
-      ap (λ r. and_then r (λ _. and_then (firsts bytes) (λ _. built_parts bytes in_order new_lists))) (contents_ok whole k)
-      ∙ ap (λ r. and_then r (λ _. built_parts bytes in_order new_lists)) firsts_ok
-      ∙ ap (λ r. and_then r (built_parts bytes (Links ∷ Rights ∷ Members ∷ Lines ∷ []))) entities_built
-      ∙ ap (λ r. and_then r (built_parts bytes (Rights ∷ Members ∷ Lines ∷ []))) links_built
-      ∙ ap (λ r. and_then r (built_parts bytes (Members ∷ Lines ∷ []))) rights_built
-      ∙ ap (λ r. and_then r (built_parts bytes (Lines ∷ []))) members_built
-      ∙ ap (λ r. and_then r (built_parts bytes [])) lines_built
+      rw (contents_ok whole k, firsts_ok, entities_built, links_built, rights_built, members_built, lines_built)
 
 -- what a book holds reads from its image
 pub write_reads : (l : Lists) → Kept l → read_lists (encode l) ≡ Ok l

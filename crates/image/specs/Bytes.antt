@@ -8,7 +8,7 @@ use Rattle.access.specs.declared.roles.Link.{Link}
 use Rattle.access.specs.declared.roles.Member.{Member}
 use Rattle.access.specs.declared.code.Object.{Object}
 use Rattle.access.specs.declared.code.Object.TheVariants as object
-use Rattle.access.specs.declared.code.ObjectNumbers.{ObjectNumbers}
+use Rattle.access.specs.declared.numbers.ObjectNumbers.{ObjectNumbers}
 use Rattle.access.specs.declared.code.Action.{Action}
 use Rattle.access.specs.declared.code.Action.TheVariants as action
 use Rattle.access.specs.declared.code.Line.{Line}

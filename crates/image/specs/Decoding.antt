@@ -8,7 +8,7 @@ use Rattle.access.specs.declared.roles.Link.{Link}
 use Rattle.access.specs.declared.roles.Member.{Member}
 use Rattle.access.specs.declared.code.Object.{Object}
 use Rattle.access.specs.declared.code.Object.TheVariants as object
-use Rattle.access.specs.declared.code.ObjectNumbers.{ObjectNumbers}
+use Rattle.access.specs.declared.numbers.ObjectNumbers.{ObjectNumbers}
 use Rattle.access.specs.declared.code.Line.{Line}
 use Rattle.access.specs.Numbers.{kind_at, mode_at, object_at, runner_at}
 use Rattle.catalogue.specs.Judgements.{entity_named, link_named, right_named, member_named, line_named}

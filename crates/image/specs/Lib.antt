@@ -5,3 +5,4 @@ pub mod Reading
 pub mod Causes
 pub mod Decoding
 pub mod Readers
+pub mod Decoded

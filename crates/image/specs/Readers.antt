@@ -1,7 +1,5 @@
 -- What a reader means, and what reading answers.
-use Rattle.std.specs.Prelude.{◌≡◌, ℕ, List, [], Ok, Err, Result, ◌≢◌}
-use Rattle.std.specs.Option.{unwrap_or}
-use Rattle.std.specs.Result.{result_ok}
+use Rattle.std.specs.Prelude.{◌≡◌, ℕ, List, Ok, Err, Result, ◌≢◌}
 use Rattle.access.specs.declared.refusals.Refusal.{Refusal}
 use Rattle.access.specs.Codes.{code}
 use Rattle.access.specs.Lists.{Lists}
@@ -9,17 +7,10 @@ use Rattle.catalogue.specs.declared.names.ListName.{ListName}
 use Rattle.catalogue.specs.Sound.{Sound, Kept}
 use Rattle.image.specs.declared.images.Image.{Image}
 use Rattle.image.specs.Encoding.{encode, body_of}
-use Rattle.image.specs.Reading.{read_lists, body_in}
+use Rattle.image.specs.Reading.{read_lists, lists_in, body_in}
 use Rattle.image.specs.Causes.{Cause}
 
--- what bytes that do not read mean: less than any catalogue has
-abbrev pub no_lists : Lists
-no_lists = record { entities = []; links = []; rights = []; members = []; lines = [] }
-
--- the lists that bytes read as
-abbrev pub lists_in : List ℕ → Lists
-lists_in bytes = unwrap_or (result_ok (read_lists bytes)) no_lists
-
+-- the lists that a reader's bytes read as
 abbrev pub image_lists : Image → Lists
 image_lists i = lists_in i.bytes.now
 

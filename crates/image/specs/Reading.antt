@@ -1,9 +1,11 @@
 -- How bytes read as five lists, and which fault they have first.
 use Rattle.std.specs.Prelude.{ℕ, zero, suc, ◌+◌, ◌-◌, ◌*◌, ◌≤◌, Bool, true, false, cond, ◌&&◌, List, [], ◌∷◌, length, take, drop, Ok, Err, Result, ◌==◌, nat_le, nat_lt, slice_index}
 use Rattle.std.specs.List.{between}
+use Rattle.std.specs.Option.{unwrap_or}
+use Rattle.std.specs.Result.{result_ok}
 use Rattle.access.specs.declared.refusals.Refusal.TheVariants.{Unreadable}
 use Rattle.access.specs.declared.entities.Entity.{Entity}
-use Rattle.access.specs.declared.code.ObjectNumbers.{ObjectNumbers}
+use Rattle.access.specs.declared.numbers.ObjectNumbers.{ObjectNumbers}
 use Rattle.access.specs.Codes.{Code, code}
 use Rattle.access.specs.Lists.{Lists, new_entities, new_lists}
 use Rattle.catalogue.specs.declared.names.ListName.{ListName}
@@ -22,6 +24,11 @@ fault part place = code (Unreadable part place)
 abbrev pub and_then : {X Y : Type 0} → Result X Code → (X → Result Y Code) → Result Y Code
 and_then (Err e) f = Err e
 and_then (Ok x) f = f x
+
+-- a step for each of some lists, up to the first that fails
+abbrev pub steps : {X : Type 0} → (ListName → X → Result X Code) → List ListName → X → Result X Code
+steps f [] x = Ok x
+steps f (p ∷ ps) x = and_then (f p x) (steps f ps)
 
 abbrev pub byte : List ℕ → ℕ → ℕ
 byte bytes i = slice_index bytes i
@@ -47,8 +54,7 @@ abbrev pub entry_end : List ℕ → ListName → ℕ → Result ℕ Code
 entry_end bytes p at = cond (entry_fits bytes p at) (Ok (at + count_at bytes p * width_of p)) (Err (fault 0 (index_of p)))
 
 abbrev pub end_after : List ℕ → List ListName → ℕ → Result ℕ Code
-end_after bytes [] at = Ok at
-end_after bytes (p ∷ ps) at = and_then (entry_end bytes p at) (end_after bytes ps)
+end_after bytes = steps (entry_end bytes)
 
 -- fewer bytes than the contents take, else the first wrong entry, else a length that is not the end of the last body
 abbrev pub contents_end : List ℕ → Result ℕ Code
@@ -67,11 +73,11 @@ numbers_at b i = record { kind = byte b i; entity = byte b (i + 1); right = byte
 
 -- the building call that the bytes of a record are
 abbrev pub call_of : ListName → List ℕ → Call
-call_of Entities b = call.Declare (byte b 0) (byte b 1) (byte b 2) (byte b 3)
-call_of Links b = call.Link (byte b 0) (byte b 1)
-call_of Rights b = call.Grant (byte b 0) (byte b 1) (byte b 2) (byte b 3)
-call_of Members b = call.Join (byte b 0) (byte b 1)
-call_of Lines b = call.Line (numbers_at b 0) (byte b 3) (numbers_at b 4)
+call_of Entities b = call.Declare (record { kind = byte b 0; parent = byte b 1; owner = byte b 2; mode = byte b 3 })
+call_of Links b = call.Link (record { lower = byte b 0; upper = byte b 1 })
+call_of Rights b = call.Grant (record { principal = byte b 0; entity = byte b 1; right = byte b 2; option = byte b 3 })
+call_of Members b = call.Join (record { account = byte b 0; role = byte b 1 })
+call_of Lines b = call.Line (record { object = numbers_at b 0; runner = byte b 3; called = numbers_at b 4 })
 
 -- the first record of a part of a body, as its building call on the lists that stand
 abbrev pub first_call : ListName → List ℕ → Lists → Outcome
@@ -98,8 +104,7 @@ abbrev pub built_part : List ℕ → ListName → Lists → Result Lists Code
 built_part bytes p l = built_from p (drop (least_of p * width_of p) (body_in p bytes)) l (least_of p) (count_at bytes p - least_of p)
 
 abbrev pub built_parts : List ℕ → List ListName → Lists → Result Lists Code
-built_parts bytes [] l = Ok l
-built_parts bytes (p ∷ ps) l = and_then (built_part bytes p l) (built_parts bytes ps)
+built_parts bytes = steps (built_part bytes)
 
 -- The first entities
 
@@ -122,6 +127,14 @@ firsts bytes = firsts_from bytes 0 new_entities
 -- the lists that bytes read as, or the first fault
 unfoldable pub read_lists : List ℕ → Result Lists Code
 read_lists bytes = and_then (contents_end bytes) (λ _. and_then (firsts bytes) (λ _. built_parts bytes in_order new_lists))
+
+-- what bytes that do not read mean: less than any catalogue has
+abbrev pub no_lists : Lists
+no_lists = record { entities = []; links = []; rights = []; members = []; lines = [] }
+
+-- the lists that bytes read as
+abbrev pub lists_in : List ℕ → Lists
+lists_in bytes = unwrap_or (result_ok (read_lists bytes)) no_lists
 
 -- what a function that builds in place returned, with the lists that it left
 abbrev pub leaves : Result (Unit {0}) Code → Lists → Result Lists Code

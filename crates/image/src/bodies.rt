@@ -1,132 +1,91 @@
 // Reads the bodies of an image: every record goes through the building call that it is.
-ghost use Rattle.std.specs.Prelude.{◌≡◌, ◌+◌, ◌-◌, ◌*◌, ◌<◌, ◌≤◌, length};
+ghost use Rattle.std.specs.Prelude.{◌≡◌, ◌<◌, ◌≤◌, length};
 ghost use Rattle.access.specs.Codes.{coded};
-ghost use Rattle.access.specs.declared.entities.Mode.TheVariants.{Creator};
-ghost use Rattle.book.specs.Gathered.{said};
+ghost use Rattle.access.specs.Lists.{first_entity};
 ghost use Rattle.book.specs.Meaning.{lists_of};
 ghost use Rattle.image.specs.Layout.{in_order, width_of};
-ghost use Rattle.image.specs.Reading.{numbers_at, call_of, new_or, built_from, built_part, built_parts, first_at, firsts, read_lists, leaves, Laid, AllLaid};
+ghost use Rattle.image.specs.Reading.{call_of, new_or, built_part, built_parts, first_at, firsts, read_lists, leaves};
 
-use crate::contents::{body_of, contents_end, count_at};
+use crate::contents::Contents;
+use crate::records::{Coded, numbers_at};
 use crate::tables::{IN_ORDER, least_of, part_of, width_of};
-use access::{Kind, ObjectNumbers, Refusal};
-use book::{Answer, Book, Call, apply};
+use access::{Entity, EntityNumbers, Kind, LineNumbers, Link, Member, Refusal, RightNumbers};
+use book::{Book, Call, apply};
 use catalogue::ListName;
 
-pub(crate) fn numbers_at(record: &[u8], i: usize) -> ObjectNumbers
-    requires { i + 3 ≤ length «record».now }
-    ensures { result ≡ numbers_at «record».now i }
-{
-    ObjectNumbers {
-        kind: record[i],
-        entity: record[i + 1],
-        right: record[i + 2],
-    }
-}
-
 // The building call that the bytes of a record are.
-fn call_of(list: ListName, record: &[u8]) -> Call
-    requires { length «record».now ≡ width_of list }
-    ensures { result ≡ call_of list «record».now }
+fn call_of(list: ListName, bytes: &[u8]) -> Call
+    requires { length bytes.now ≡ width_of list }
+    ensures { result ≡ call_of list bytes.now }
 {
     match list {
-        ListName::Entities => Call::Declare {
-            kind: record[0],
-            parent: record[1],
-            owner: record[2],
-            mode: record[3],
-        },
-        ListName::Links => Call::Link {
-            lower: record[0],
-            upper: record[1],
-        },
-        ListName::Rights => Call::Grant {
-            principal: record[0],
-            entity: record[1],
-            right: record[2],
-            option: record[3],
-        },
-        ListName::Members => Call::Join {
-            account: record[0],
-            role: record[1],
-        },
-        ListName::Lines => Call::Line {
-            object: numbers_at(record, 0),
-            runner: record[3],
-            called: numbers_at(record, 4),
-        },
-    }
-}
-
-// A record's call must have returned the next number: a record that is declined or stands already is a fault.
-fn check_new(answer: Answer, list: ListName, record: usize) -> Result<(), Refusal>
-    requires { «record» < 65536 }
-    ensures { coded result ≡ new_or (said answer) list «record» }
-{
-    match answer {
-        Answer::Number(n) if n == record => Ok(()),
-        _ => Err(Refusal::Unreadable {
-            part: part_of(list),
-            record: record as u16,
+        ListName::Entities => Call::Declare(EntityNumbers {
+            kind: bytes[0],
+            parent: bytes[1],
+            owner: bytes[2],
+            mode: bytes[3],
+        }),
+        ListName::Links => Call::Link(Link::from_bytes(bytes)),
+        ListName::Rights => Call::Grant(RightNumbers {
+            principal: bytes[0],
+            entity: bytes[1],
+            right: bytes[2],
+            option: bytes[3],
+        }),
+        ListName::Members => Call::Join(Member::from_bytes(bytes)),
+        ListName::Lines => Call::Line(LineNumbers {
+            object: numbers_at(bytes, 0),
+            runner: bytes[3],
+            called: numbers_at(bytes, 4),
         }),
     }
 }
 
-// Reads the records of a body from one on, whose bytes and those after it are given.
-fn read_records(
-    book: &mut Book,
-    list: ListName,
-    bytes: &[u8],
-    from: usize,
-    count: usize,
-) -> Result<(), Refusal>
-    requires room { (count - from) * width_of list ≤ length bytes.now }
-    requires small { (from ≤ count) × (count < 65536) }
-    ensures { leaves (coded result) (lists_of book.new) ≡ built_from list bytes.now (lists_of book.old) from (count - from) }
+// A record's call must have returned the next number: a record that is declined or stands already is a fault.
+fn check_new(answer: Result<usize, Refusal>, list: ListName, next: usize) -> Result<(), Refusal>
+    requires { next < 65536 }
+    ensures { coded result ≡ new_or (coded answer) list next }
 {
-    let width = width_of(list);
-    let mut rest = bytes;
-    for k in from..count {
-        let (record, after) = rest.split_at(width);
-        let answer = apply(book, call_of(list, record));
-        check_new(answer, list, k)?;
-        rest = after;
+    match answer {
+        Ok(n) if n == next => Ok(()),
+        _ => Err(Refusal::Unreadable {
+            part: part_of(list),
+            record: next as u16,
+        }),
     }
-    Ok(())
 }
 
 // Reads the body of a list, after the records that a new book has.
-fn read_body(book: &mut Book, list: ListName, bytes: &[u8]) -> Result<(), Refusal>
-    requires { Laid bytes.now list }
-    ensures { leaves (coded result) (lists_of book.new) ≡ built_part bytes.now list (lists_of book.old) }
+fn read_body(book: &mut Book, contents: &Contents, list: ListName) -> Result<(), Refusal>
+    ensures { leaves (coded result) (lists_of book.new) ≡ built_part contents.now.bytes.now list (lists_of book.old) }
 {
-    let from = least_of(list);
-    let (_, rest) = body_of(bytes, list).split_at(from * width_of(list));
-    read_records(book, list, rest, from, count_at(bytes, list))
-}
-
-// Reads the bodies in their order.
-fn read_bodies(book: &mut Book, bytes: &[u8]) -> Result<(), Refusal>
-    requires { AllLaid bytes.now }
-    ensures { leaves (coded result) (lists_of book.new) ≡ built_parts bytes.now in_order (lists_of book.old) }
-{
-    for list in IN_ORDER {
-        read_body(book, list, bytes)?;
+    let (least, width) = (least_of(list), width_of(list));
+    let (_, rest) = contents.body(list).split_at(least * width);
+    for (k, entry) in (least..contents.count(list)).zip(rest.chunks_exact(width)) {
+        check_new(apply(book, call_of(list, entry)), list, k)?;
     }
     Ok(())
 }
 
-// The record of an entity that a new book has.
+// Reads the bodies in their order.
+fn read_bodies(book: &mut Book, contents: &Contents) -> Result<(), Refusal>
+    ensures { leaves (coded result) (lists_of book.new) ≡ built_parts contents.now.bytes.now in_order (lists_of book.old) }
+{
+    for list in IN_ORDER {
+        read_body(book, contents, list)?;
+    }
+    Ok(())
+}
+
+// An entity that a new book has must stand as record k.
 fn check_first(bytes: &[u8], k: usize, kind: Kind) -> Result<(), Refusal>
     requires { (k < 3) × (32 ≤ length bytes.now) }
-    ensures { coded result ≡ first_at bytes.now k (record { kind = kind; parent = 0; owner = 2; mode = Creator }) }
+    ensures { coded result ≡ first_at bytes.now k (first_entity kind) }
 {
-    let at = 20 + k * 4;
-    if bytes[at] == kind.number()
-        && bytes[at + 1] == 0
-        && bytes[at + 2] == 2
-        && bytes[at + 3] == 0
-    {
+    let mut first = [0; 4];
+    Entity::first(kind).put(&mut first);
+    let start = 20 + k * 4;
+    if bytes[start..start + 4] == first[..] {
         Ok(())
     } else {
         Err(Refusal::Unreadable {
@@ -136,6 +95,7 @@ fn check_first(bytes: &[u8], k: usize, kind: Kind) -> Result<(), Refusal>
     }
 }
 
+// Kept: three calls, since a loop over three kinds is no plainer.
 fn check_firsts(bytes: &[u8]) -> Result<(), Refusal>
     requires { 32 ≤ length bytes.now }
     ensures { coded result ≡ firsts bytes.now }
@@ -149,8 +109,8 @@ fn check_firsts(bytes: &[u8]) -> Result<(), Refusal>
 pub(crate) fn rebuild(book: &mut Book, bytes: &[u8]) -> Result<(), Refusal>
     ensures { leaves (coded result) (lists_of book.new) ≡ read_lists bytes.now }
 {
-    contents_end(bytes)?;
+    let contents = Contents::read(bytes)?;
     check_firsts(bytes)?;
     book.clear();
-    read_bodies(book, bytes)
+    read_bodies(book, &contents)
 }

@@ -1,90 +1,160 @@
 // A record's bytes, one for each field.
-ghost use Rattle.std.specs.Prelude.{◌≡◌, ℕ, ◌+◌, ◌≤◌, List, length};
-ghost use Rattle.image.specs.Bytes.{entity_bytes, link_bytes, right_bytes, member_bytes, line_bytes, numbers_of, called_by, bytes_or, written};
+ghost use Rattle.std.specs.Prelude.{◌≡◌, ℕ, ◌+◌, ◌≤◌, List, length, Some, refl};
+ghost use Rattle.std.specs.List.{slice_get};
+ghost use Rattle.access.specs.Lists.{Lists};
+ghost use Rattle.catalogue.specs.Sound.{Sound};
+ghost use Rattle.image.specs.Layout.{width_of};
+ghost use Rattle.image.specs.Bytes.{entity_bytes, link_bytes, right_bytes, member_bytes, line_bytes, numbers_of, called_by, bytes_or, record_at};
+ghost use Rattle.image.specs.Decoding.{entity_of, link_of, right_of, member_of, object_of, line_of};
+ghost use Rattle.image.specs.Reading.{numbers_at};
+ghost use Rattle.image.specs.Decoded.{entity_decoded, link_decoded, right_decoded, member_decoded, line_decoded};
 
-use access::{Action, Entity, Line, Link, Member, Object, ObjectNumbers, RightRecord};
+use access::{
+    Action, Entity, Kind, Line, Link, Member, Mode, Object, ObjectNumbers, Right, RightRecord,
+    Runner, option_listed,
+};
+use catalogue::Listed;
 
 // A record that stands in an image as bytes.
-pub(crate) trait Coded {
-    ghost bytes: { Self → List ℕ };
+pub(crate) trait Coded: Listed {
+    ghost encoded: { Self → List ℕ };
 
-    // Writes the record's bytes from a place on, and says where they end.
-    fn put(&self, room: &mut [u8], at: usize) -> usize
-        requires { at + length (bytes self.now) ≤ length room.old }
-        ensures end { result ≡ at + length (bytes self.now) }
-        ensures room { room.new ≡ written room.old at (bytes self.now) };
-}
+    ghost decoded: { List ℕ → Self };
 
-// Writes bytes from a place on, and says where they end.
-pub(crate) fn put_bytes(bytes: &[u8], room: &mut [u8], at: usize) -> usize
-    requires { at + length bytes.now ≤ length room.old }
-    ensures end { result ≡ at + length bytes.now }
-    ensures room { room.new ≡ written room.old at bytes.now }
-{
-    let end = at + bytes.len();
-    room[at..end].copy_from_slice(bytes);
-    end
-}
+    // Fills a room with the record's bytes.
+    fn put(&self, room: &mut [u8])
+        requires { length room.old ≡ width_of Self.named }
+        ensures { room.new ≡ encoded self.now };
 
-// Writes a record that may be there.
-pub(crate) fn put_found<T: Coded + Copy>(x: Option<T>, room: &mut [u8], at: usize) -> usize
-    requires { at + length (bytes_or T.Coded.bytes x) ≤ length room.old }
-    ensures end { result ≡ at + length (bytes_or T.Coded.bytes x) }
-    ensures room { room.new ≡ written room.old at (bytes_or T.Coded.bytes x) }
-{
-    match x {
-        Some(x) => x.put(room, at),
-        None => at,
-    }
+    // The record that bytes are.
+    fn from_bytes(bytes: &[u8]) -> Self
+        requires { length bytes.now ≡ width_of Self.named }
+        ensures { result ≡ decoded bytes.now };
+
+    ghost wide: { (x : Self) → length (encoded x) ≡ width_of Self.named };
+
+    // The bytes of record n of its list.
+    ghost stands: { (l : Lists) (n : ℕ) → record_at l Self.named n ≡ bytes_or encoded (slice_get (Self.listed l) n) };
+
+    // A record of a catalogue is the one that its bytes are.
+    ghost back: { (l : Lists) (n : ℕ) (x : Self) → Sound l → slice_get (Self.listed l) n ≡ Some x → decoded (encoded x) ≡ x };
 }
 
 impl Coded for Entity {
-    ghost bytes = { entity_bytes };
+    ghost encoded = { entity_bytes };
 
-    fn put(&self, room: &mut [u8], at: usize) -> usize {
-        put_bytes(
-            &[
-                self.kind.number(),
-                self.parent,
-                self.owner,
-                self.mode.number(),
-            ],
-            room,
-            at,
-        )
+    ghost decoded = { entity_of };
+
+    ghost wide = { λ x. refl };
+
+    ghost stands = { λ l n. refl };
+
+    ghost back = { entity_decoded };
+
+    fn put(&self, room: &mut [u8]) {
+        room.copy_from_slice(&[
+            u8::from(self.kind),
+            self.parent,
+            self.owner,
+            u8::from(self.mode),
+        ]);
+    }
+
+    fn from_bytes(bytes: &[u8]) -> Entity {
+        Entity {
+            kind: Kind::try_from(bytes[0]).unwrap_or(Kind::Container),
+            parent: bytes[1],
+            owner: bytes[2],
+            mode: Mode::try_from(bytes[3]).unwrap_or(Mode::Creator),
+        }
     }
 }
 
 impl Coded for Link {
-    ghost bytes = { link_bytes };
+    ghost encoded = { link_bytes };
 
-    fn put(&self, room: &mut [u8], at: usize) -> usize {
-        put_bytes(&[self.lower, self.upper], room, at)
+    ghost decoded = { link_of };
+
+    ghost wide = { λ x. refl };
+
+    ghost stands = { λ l n. refl };
+
+    ghost back = { link_decoded };
+
+    fn put(&self, room: &mut [u8]) {
+        room.copy_from_slice(&[self.lower, self.upper]);
+    }
+
+    fn from_bytes(bytes: &[u8]) -> Link {
+        Link {
+            lower: bytes[0],
+            upper: bytes[1],
+        }
     }
 }
 
 impl Coded for RightRecord {
-    ghost bytes = { right_bytes };
+    ghost encoded = { right_bytes };
 
-    fn put(&self, room: &mut [u8], at: usize) -> usize {
-        put_bytes(
-            &[
-                self.principal,
-                self.entity,
-                self.right.number(),
-                self.option as u8,
-            ],
-            room,
-            at,
-        )
+    ghost decoded = { right_of };
+
+    ghost wide = { λ x. refl };
+
+    ghost stands = { λ l n. refl };
+
+    ghost back = { right_decoded };
+
+    fn put(&self, room: &mut [u8]) {
+        room.copy_from_slice(&[
+            self.principal,
+            self.entity,
+            u8::from(self.right),
+            u8::from(self.option),
+        ]);
+    }
+
+    fn from_bytes(bytes: &[u8]) -> RightRecord {
+        RightRecord {
+            principal: bytes[0],
+            entity: bytes[1],
+            right: Right::try_from(bytes[2]).unwrap_or(Right::Select),
+            option: option_listed(bytes[3]).unwrap_or(false),
+        }
     }
 }
 
 impl Coded for Member {
-    ghost bytes = { member_bytes };
+    ghost encoded = { member_bytes };
 
-    fn put(&self, room: &mut [u8], at: usize) -> usize {
-        put_bytes(&[self.account, self.role], room, at)
+    ghost decoded = { member_of };
+
+    ghost wide = { λ x. refl };
+
+    ghost stands = { λ l n. refl };
+
+    ghost back = { member_decoded };
+
+    fn put(&self, room: &mut [u8]) {
+        room.copy_from_slice(&[self.account, self.role]);
+    }
+
+    fn from_bytes(bytes: &[u8]) -> Member {
+        Member {
+            account: bytes[0],
+            role: bytes[1],
+        }
+    }
+}
+
+// The three bytes at a place, as an object's numbers.
+pub(crate) fn numbers_at(bytes: &[u8], i: usize) -> ObjectNumbers
+    requires { i + 3 ≤ length bytes.now }
+    ensures { result ≡ numbers_at bytes.now i }
+{
+    ObjectNumbers {
+        kind: bytes[i],
+        entity: bytes[i + 1],
+        right: bytes[i + 2],
     }
 }
 
@@ -98,6 +168,12 @@ fn numbers_of(x: Object) -> ObjectNumbers
     })
 }
 
+fn object_of(n: ObjectNumbers) -> Object
+    ensures { result ≡ object_of n }
+{
+    Object::try_from(n).unwrap_or(Object::Procedure(0))
+}
+
 // The object that a line calls; no other action stands in a catalogue.
 fn called_by(action: Action) -> Object
     ensures { result ≡ called_by action }
@@ -109,23 +185,35 @@ fn called_by(action: Action) -> Object
 }
 
 impl Coded for Line {
-    ghost bytes = { line_bytes };
+    ghost encoded = { line_bytes };
 
-    fn put(&self, room: &mut [u8], at: usize) -> usize {
+    ghost decoded = { line_of };
+
+    ghost wide = { λ x. refl };
+
+    ghost stands = { λ l n. refl };
+
+    ghost back = { line_decoded };
+
+    fn put(&self, room: &mut [u8]) {
         let object = numbers_of(self.object);
         let called = numbers_of(called_by(self.action));
-        put_bytes(
-            &[
-                object.kind,
-                object.entity,
-                object.right,
-                self.runner.number(),
-                called.kind,
-                called.entity,
-                called.right,
-            ],
-            room,
-            at,
-        )
+        room.copy_from_slice(&[
+            object.kind,
+            object.entity,
+            object.right,
+            u8::from(self.runner),
+            called.kind,
+            called.entity,
+            called.right,
+        ]);
+    }
+
+    fn from_bytes(bytes: &[u8]) -> Line {
+        Line {
+            object: object_of(numbers_at(bytes, 0)),
+            runner: Runner::from(bytes[3]),
+            action: Action::Call(object_of(numbers_at(bytes, 4))),
+        }
     }
 }

@@ -1,16 +1,16 @@
 // Writes the image of a book.
-ghost use Rattle.std.specs.Prelude.{◌≡◌, ◌+◌, ◌*◌, ◌/◌, ◌%◌, ◌<◌, ◌≤◌, length, Ok};
+ghost use Rattle.std.specs.Prelude.{◌≡◌, ◌+◌, ◌*◌, ◌<◌, ◌≤◌, length, Ok, sum_by};
 ghost use Rattle.access.specs.Codes.{coded};
 ghost use Rattle.catalogue.specs.Counts.{count_of};
 ghost use Rattle.book.specs.Meaning.{lists_of};
-ghost use Rattle.image.specs.Layout.{width_of};
-ghost use Rattle.image.specs.Bytes.{record_at, written};
+ghost use Rattle.image.specs.Layout.{in_order, width_of};
+ghost use Rattle.image.specs.Bytes.{record_at};
 ghost use Rattle.image.specs.Encoding.{entry_bytes, body_of, contents, bodies, encode, write_answer, write_room};
 ghost use Rattle.image.specs.Reading.{read_lists};
 
-use crate::records::{Coded, put_bytes, put_found};
+use crate::records::Coded;
 use crate::tables::{IN_ORDER, width_of};
-use access::Refusal;
+use access::{Entity, Line, Link, Member, Refusal, RightRecord};
 use book::Book;
 use catalogue::{Catalogue, ListName};
 
@@ -22,114 +22,104 @@ fn body_len(book: &Book, list: ListName) -> usize
     book.count(list) * width_of(list)
 }
 
+// How many bytes the bodies of a book's image have.
+fn bodies_len(book: &Book) -> usize
+    ensures { result ≡ sum_by (λ p. count_of (lists_of book.now) p * width_of p) in_order }
+{
+    IN_ORDER.iter().map(|list| body_len(book, *list)).sum()
+}
+
 // How many bytes the image of a book has.
 fn image_len(book: &Book) -> usize
-    ensures value { result ≡ length (encode (lists_of book.now)) }
-    ensures parts { result ≡ 20 + length (bodies (lists_of book.now)) }
+    ensures { result ≡ length (encode (lists_of book.now)) }
 {
-    let mut end = 20;
-    for list in IN_ORDER {
-        end += body_len(book, list);
-    }
-    end
+    20 + bodies_len(book)
 }
 
-// A number below 65,536 as two bytes, high byte first.
-fn two_bytes(n: usize) -> (u8, u8)
-    requires { n < 65536 }
-    ensures { (result.0 ≡ n / 256) × (result.1 ≡ n % 256) }
-{
-    ((n / 256) as u8, (n % 256) as u8)
-}
-
-// Writes an entry of the contents.
-fn put_entry(start: usize, count: usize, room: &mut [u8], at: usize) -> usize
+// Fills the room of an entry of the contents.
+fn put_entry(start: usize, count: usize, room: &mut [u8])
     requires small { (start < 65536) × (count < 65536) }
-    requires room { at + 4 ≤ length room.old }
-    ensures end { result ≡ at + 4 }
-    ensures room { room.new ≡ written room.old at (entry_bytes start count) }
+    requires room { length room.old ≡ 4 }
+    ensures { room.new ≡ entry_bytes start count }
 {
-    let (start_high, start_low) = two_bytes(start);
-    let (count_high, count_low) = two_bytes(count);
-    put_bytes(&[start_high, start_low, count_high, count_low], room, at)
+    room[0..2].copy_from_slice(&(start as u16).to_be_bytes());
+    room[2..4].copy_from_slice(&(count as u16).to_be_bytes());
 }
 
-// Writes the contents to the front of a room.
-fn put_contents(book: &Book, room: &mut [u8]) -> usize
-    requires { 20 ≤ length room.old }
-    ensures end { result ≡ 20 }
-    ensures room { room.new ≡ written room.old 0 (contents (lists_of book.now)) }
+// Fills the room of the contents.
+fn put_contents(book: &Book, room: &mut [u8])
+    requires { length room.old ≡ 20 }
+    ensures { room.new ≡ contents (lists_of book.now) }
 {
-    let mut at = 0;
     let mut start = 20;
-    for list in IN_ORDER {
-        at = put_entry(start, book.count(list), room, at);
-        start += body_len(book, list);
+    // Kept: parts by their places, since of parts from `chunks_exact_mut` a proof knows only the length (tried, and so `split_at_mut`).
+    for (i, list) in IN_ORDER.iter().enumerate() {
+        put_entry(start, book.count(*list), &mut room[i * 4..i * 4 + 4]);
+        start += body_len(book, *list);
     }
-    at
 }
 
-// Writes record n of a list.
-fn put_record(book: &Book, list: ListName, n: usize, room: &mut [u8], at: usize) -> usize
-    requires { at + length (record_at (lists_of book.now) list n) ≤ length room.old }
-    ensures end { result ≡ at + length (record_at (lists_of book.now) list n) }
-    ensures room { room.new ≡ written room.old at (record_at (lists_of book.now) list n) }
+// Fills the room of record n of a list.
+fn put_record<T: Coded>(book: &Book, n: usize, room: &mut [u8])
+    requires stands { n < count_of (lists_of book.now) T.named }
+    requires room { length room.old ≡ width_of T.named }
+    ensures { room.new ≡ record_at (lists_of book.now) T.named n }
+{
+    book.sound();
+    if let Some(x) = T::at(book, n) {
+        x.put(room);
+    }
+}
+
+// Fills the room of a body with the records of its list.
+fn put_records<T: Coded>(book: &Book, room: &mut [u8])
+    requires { length room.old ≡ length (body_of (lists_of book.now) T.named) }
+    ensures { room.new ≡ body_of (lists_of book.now) T.named }
+{
+    let (count, width) = (book.count(T::list()), width_of(T::list()));
+    // Kept: parts by their places, for the same reason as in the contents.
+    for n in 0..count {
+        let start = n * width;
+        put_record::<T>(book, n, &mut room[start..start + width]);
+    }
+}
+
+// Fills the room of the body of a list.
+fn put_body(book: &Book, list: ListName, room: &mut [u8])
+    requires { length room.old ≡ length (body_of (lists_of book.now) list) }
+    ensures { room.new ≡ body_of (lists_of book.now) list }
 {
     match list {
-        ListName::Entities => put_found(book.entity_at(n), room, at),
-        ListName::Links => put_found(book.link_at(n), room, at),
-        ListName::Rights => put_found(book.right_at(n), room, at),
-        ListName::Members => put_found(book.member_at(n), room, at),
-        ListName::Lines => put_found(book.line_at(n), room, at),
+        ListName::Entities => put_records::<Entity>(book, room),
+        ListName::Links => put_records::<Link>(book, room),
+        ListName::Rights => put_records::<RightRecord>(book, room),
+        ListName::Members => put_records::<Member>(book, room),
+        ListName::Lines => put_records::<Line>(book, room),
     }
 }
 
-// Writes all records of a list one after another.
-fn put_records(book: &Book, list: ListName, count: usize, room: &mut [u8], at: usize) -> usize
-    requires all { count ≡ count_of (lists_of book.now) list }
-    requires room { at + length (body_of (lists_of book.now) list) ≤ length room.old }
-    ensures end { result ≡ at + length (body_of (lists_of book.now) list) }
-    ensures room { room.new ≡ written room.old at (body_of (lists_of book.now) list) }
+// Fills the room of the bodies, one after another.
+fn put_bodies(book: &Book, room: &mut [u8])
+    requires { length room.old ≡ length (bodies (lists_of book.now)) }
+    ensures { room.new ≡ bodies (lists_of book.now) }
 {
-    let mut end = at;
-    for n in 0..count {
-        end = put_record(book, list, n, room, end);
-    }
-    end
-}
-
-// Writes the body of a list.
-fn put_body(book: &Book, list: ListName, room: &mut [u8], at: usize) -> usize
-    requires { at + length (body_of (lists_of book.now) list) ≤ length room.old }
-    ensures end { result ≡ at + length (body_of (lists_of book.now) list) }
-    ensures room { room.new ≡ written room.old at (body_of (lists_of book.now) list) }
-{
-    put_records(book, list, book.count(list), room, at)
-}
-
-// Writes the bodies one after another.
-fn put_bodies(book: &Book, room: &mut [u8], at: usize) -> usize
-    requires { at + length (bodies (lists_of book.now)) ≤ length room.old }
-    ensures end { result ≡ at + length (bodies (lists_of book.now)) }
-    ensures room { room.new ≡ written room.old at (bodies (lists_of book.now)) }
-{
-    let mut end = at;
+    let mut start = 0;
+    // Kept: a place that runs, for the same reason as in the contents.
     for list in IN_ORDER {
-        end = put_body(book, list, room, end);
+        let end = start + body_len(book, list);
+        put_body(book, list, &mut room[start..end]);
+        start = end;
     }
-    end
 }
 
-// Writes the contents and the bodies, if there is room for both.
-fn put_image(book: &Book, room: &mut [u8]) -> Result<usize, Refusal>
-    ensures answer { coded result ≡ write_answer (encode (lists_of book.now)) room.old }
-    ensures room { room.new ≡ write_room (encode (lists_of book.now)) room.old }
+// Fills the room of an image.
+fn put_image(book: &Book, room: &mut [u8])
+    requires { length room.old ≡ length (encode (lists_of book.now)) }
+    ensures { room.new ≡ encode (lists_of book.now) }
 {
-    if room.len() < image_len(book) {
-        return Err(Refusal::NoRoom);
-    }
-    let at = put_contents(book, room);
-    Ok(put_bodies(book, room, at))
+    let (head, rest) = room.split_at_mut(20);
+    put_contents(book, head);
+    put_bodies(book, rest);
 }
 
 // Writes the image of a book to the front of a room, and returns its length; what a book writes reads as the book's lists.
@@ -138,5 +128,10 @@ pub fn write(book: &Book, room: &mut [u8]) -> Result<usize, Refusal>
     ensures room { room.new ≡ write_room (encode (lists_of book.now)) room.old }
     ensures reads { read_lists (encode (lists_of book.now)) ≡ Ok (lists_of book.now) }
 {
-    put_image(book, room)
+    let n = image_len(book);
+    if room.len() < n {
+        return Err(Refusal::NoRoom);
+    }
+    put_image(book, &mut room[0..n]);
+    Ok(n)
 }

@@ -1,17 +1,13 @@
-use Rattle.std.proofs.Common.{sym, ◌∙◌, arith}
+use Rattle.std.proofs.Common.{◌+◌, sym, ap, ◌∙◌, arith}
 use Rattle.book.specs.Meaning.{lists_of}
-use Rattle.image.specs.Layout.{in_order}
-use Rattle.image.proofs.Counting.{end_more, end_all, encode_length, encode_bodies}
+use Rattle.catalogue.specs.declared.names.ListName.TheVariants.{Entities, Links, Rights, Members, Lines}
+use Rattle.image.proofs.Counting.{book_small, encode_sum}
 use Rattle.image.proofs.writer.image_len.Goals as goal
 
-pub loop-list-preserved : goal.loop-list-preserved
-loop-list-preserved c = (
-  end_more (lists_of c.args.book.now) in_order c.loop-list.list-index _ (omega arith) c.loop-list.end c.body_len-end.result c.body_len-end.ensures.value ∙ c.loop-list.invariant.0,
-  omega (arith, c.body_len-end.ensures.bound, c.loop-list.invariant.1),
-)
+pub overflow_add-result : goal.overflow_add-result
+overflow_add-result c =
+    let b = c.args.book.now in
+    omega (arith, c.bodies_len.ensures, book_small b Entities, book_small b Links, book_small b Rights, book_small b Members, book_small b Lines)
 
 pub returns : goal.returns
-returns c =
-    let l = lists_of c.args.book.now in
-    let end = sym (end_all l in_order c.loop-list.list-index (omega (arith, c.loop-list-test.false)) c.loop-list.end) ∙ c.loop-list.invariant.0 ∙ sym (encode_length l) in
-    record { value = end; parts = end ∙ encode_bodies l }
+returns c = ap (λ n. 20 + n) c.bodies_len.ensures ∙ sym (encode_sum (lists_of c.args.book.now))
