@@ -1,5 +1,5 @@
 -- What the laws of runs need of a catalogue, from its soundness.
-use Rattle.std.proofs.Common.{◌≡◌, ℕ, zero, suc, ◌-◌, ◌<◌, ◌≤◌, Bool, true, ◌&&◌, eqb, ◌⊎◌, List, [], ◌∷◌, ◌++◌, length, is_some, is_ok, Some, None, Ok, Err, Option, Result, sym, refl, ap, ◌∙◌, subst, inl, inr, ⊎_elim, arith}
+use Rattle.std.proofs.Common.{rules, ◌≡◌, ℕ, zero, suc, ◌-◌, ◌<◌, ◌≤◌, Bool, true, ◌&&◌, eqb, ◌⊎◌, List, [], ◌∷◌, ◌++◌, length, is_some, is_ok, Some, None, Ok, Err, Option, Result, sym, refl, ap, ◌∙◌, subst, inl, inr, ⊎_elim, arith}
 use mathlib.Core.List.Memᴰ
 use Rattle.std.specs.List.{slice_get, AllByRecursion}
 use Rattle.std.proofs.lemmas.Bool.{eqb-true, not-false, and_parts, false≢true}
@@ -43,32 +43,16 @@ module _ (L : Lists) where
       go (Some x) p = record { entity = x; there = p; kind = only x.kind (ap (passes test) (sym p) ∙ h) }
 
 only_table : (j : Kind) → is_table j ≡ true → j ≡ kind.Table
-only_table kind.Container e = absurd (false≢true e)
-only_table kind.Table e = refl
-only_table kind.Procedure e = absurd (false≢true e)
-only_table kind.Account e = absurd (false≢true e)
-only_table kind.Role e = absurd (false≢true e)
+only_table = search rules
 
 only_procedure : (j : Kind) → is_procedure j ≡ true → j ≡ kind.Procedure
-only_procedure kind.Container e = absurd (false≢true e)
-only_procedure kind.Table e = absurd (false≢true e)
-only_procedure kind.Procedure e = refl
-only_procedure kind.Account e = absurd (false≢true e)
-only_procedure kind.Role e = absurd (false≢true e)
+only_procedure = search rules
 
 only_account : (j : Kind) → is_account j ≡ true → j ≡ kind.Account
-only_account kind.Container e = absurd (false≢true e)
-only_account kind.Table e = absurd (false≢true e)
-only_account kind.Procedure e = absurd (false≢true e)
-only_account kind.Account e = refl
-only_account kind.Role e = absurd (false≢true e)
+only_account = search rules
 
 only_role : (j : Kind) → is_role j ≡ true → j ≡ kind.Role
-only_role kind.Container e = absurd (false≢true e)
-only_role kind.Table e = absurd (false≢true e)
-only_role kind.Procedure e = absurd (false≢true e)
-only_role kind.Account e = absurd (false≢true e)
-only_role kind.Role e = refl
+only_role = search rules
 
 module _ (L : Lists) (e : ℕ) where
   pub role_is : fits is_role L.entities e ≡ true → Is L kind.Role e
@@ -88,7 +72,7 @@ module _ (L : Lists) (e : ℕ) where
 -- what stands after one more came is what stood, or that one
 pub nth_pushed : {X : Type 0} (xs : List X) (x : X) (n : ℕ) (y : X) → slice_get (xs ++ x ∷ []) n ≡ Some y → (slice_get xs n ≡ Some y) ⊎ ((n ≡ length xs) × (x ≡ y))
 nth_pushed [] x zero y e = inr (refl, cc)
-nth_pushed [] x (suc n) y e = let z : ◌≡◌ {A = ℕ} 0 1 = cc in let no : ⊥ = omega arith in absurd no
+nth_pushed [] x (suc n) y e = cc
 nth_pushed (z ∷ zs) x zero y e = inl e
 nth_pushed (z ∷ zs) x (suc n) y e = ⊎_elim (λ p. inl p) (λ (p, q). inr (ap suc p, q)) (nth_pushed zs x n y e)
 
@@ -111,7 +95,7 @@ rooted_new e x p = go e p
     go zero q = let same : 0 ≡ x.parent = cc in omega arith
     go (suc zero) q = let same : 0 ≡ x.parent = cc in omega arith
     go (suc (suc zero)) q = let same : 0 ≡ x.parent = cc in omega arith
-    go (suc (suc (suc n))) q = let z : ◌≡◌ {A = ℕ} 0 1 = cc in let no : ⊥ = omega arith in absurd no
+    go (suc (suc (suc n))) q = cc
 
 pub declared_rooted : (es : List Entity) → Declared es → Rooted es
 declared_rooted = declared_ind Rooted rooted_new rooted_more
@@ -151,10 +135,10 @@ self_new : SelfOwned new_entities
 self_new v x p k = go v p
   where
     go : (v : ℕ) → slice_get new_entities v ≡ Some x → x.owner ≡ v
-    go zero q = let z : kind.Container ≡ kind.Account = cc in let n : ◌≡◌ {A = ℕ} 0 1 = cc in let no : ⊥ = omega arith in absurd no
-    go (suc zero) q = let z : kind.Role ≡ kind.Account = cc in let n : ◌≡◌ {A = ℕ} 0 1 = cc in let no : ⊥ = omega arith in absurd no
+    go zero q = cc
+    go (suc zero) q = cc
     go (suc (suc zero)) q = let same : 2 ≡ x.owner = cc in sym same
-    go (suc (suc (suc n))) q = let z : ◌≡◌ {A = ℕ} 0 1 = cc in let no : ⊥ = omega arith in absurd no
+    go (suc (suc (suc n))) q = cc
 
 declared_self : (es : List Entity) → Declared es → SelfOwned es
 declared_self = declared_ind SelfOwned self_new self_more

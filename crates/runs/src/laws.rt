@@ -6,7 +6,7 @@ ghost use Rattle.runs.specs.Laws.{LargerAllows, LargerRuns, RunsGrow, RunsAppend
 ghost use Rattle.runs.specs.Runs.{UseBy, Use, ActsAs};
 
 // The laws of runs stand.
-pub fn laws_stand() -> u8
+pub fn laws_stand()
     ensures larger { LargerAllows }
     ensures mirrored { LargerRuns }
     ensures growing { RunsGrow }
@@ -16,16 +16,12 @@ pub fn laws_stand() -> u8
     ensures exact { SaturationTells }
     ensures rules { RulesAreSteps }
     ensures orders { TwoOrders }
-{
-    0
-}
+{}
 
 // In the laboratory a session of account 4 comes to use impersonate on account 3 by four steps, and so to act as it.
-pub fn laboratory_stands() -> u8
+pub fn laboratory_stands()
     ensures sound { Sound lab }
     ensures steps { UseBy lab 4 lab_steps 3 Impersonate }
     ensures uses { Use lab 4 3 Impersonate }
     ensures acts { ActsAs lab 4 3 }
-{
-    0
-}
+{}
