@@ -1,4 +1,6 @@
 pub mod Copying
+pub mod Carrying
+pub mod Readiness
 pub mod Marking
 pub mod Roles
 pub mod Rowing

@@ -1,21 +1,19 @@
 -- The rows of an account say what it holds and may grant.
-use Rattle.std.proofs.Common.{◌≡◌, ℕ, ◌<◌, Bool, true, false, not, ◌&&◌, ◌||◌, eqb, ltb, List, [], ◌++◌, Some, None, Decides, Option, sym, refl, ap, ◌∙◌, subst, ⊎_elim, arith}
-use mathlib.Core.Bool.{or-false, and-true}
+use Rattle.std.proofs.Common.{rules, ◌≡◌, ℕ, ◌<◌, Bool, true, false, not, ◌&&◌, ◌||◌, eqb, ltb, ◌⊎◌, List, [], Some, None, Decides, Option, sym, refl, ap, ◌∙◌, subst, inl, inr, ⊎_elim, arith}
+use mathlib.Core.Bool.{or-false}
 use mathlib.Core.List.Memᴰ
-use Rattle.std.specs.List.{slice_get}
+use Rattle.std.specs.List.{slice_get, list_any}
 use Rattle.std.proofs.lemmas.Bool.{both_ways, or_cases, or_left, or_right, and_parts, and_from, eqb-true, eq-eqb, lt-ltb}
 use Rattle.access.specs.declared.entities.Entity.{Entity}
 use Rattle.access.specs.declared.rights.Right.{Right}
-use Rattle.access.specs.declared.rights.Right.TheVariants.{Select, Insert, Update, Delete, Alter, Execute, Impersonate}
 use Rattle.access.specs.declared.rights.RightRecord.{RightRecord}
 use Rattle.access.specs.declared.roles.Member.{Member}
 use Rattle.access.specs.declared.sets.RightSet.{RightSet}
 use Rattle.access.specs.Lists.{◌∈◌, Lists}
-use Rattle.access.specs.Numbers.{right_number, right_at}
+use Rattle.access.specs.Numbers.{right_number}
 use Rattle.access.specs.Orders.{Within}
 use Rattle.access.specs.Sets.{told}
 use Rattle.access.proofs.NumberLaws.{right_small}
-use Rattle.order.specs.Rows.{leq}
 use Rattle.order.specs.Spreads.{Carried}
 use Rattle.order.proofs.TreeLaws.{below_stands}
 use Rattle.catalogue.specs.Sound.{Sound}
@@ -25,22 +23,13 @@ use Rattle.runs.specs.Rights.{right_record, Has, by_record, CanGrant, by_option,
 use Rattle.runs.proofs.Grounds.{few}
 use Rattle.runs.proofs.Ordering.{place_stands}
 use Rattle.runs.proofs.RightLaws.{Knows, holds_known, may_known}
-use Rattle.session.specs.Marks.{any, gives_right, owned, owner_marked}
+use Rattle.session.specs.Marks.{gives_right, owned, owner_marked}
 use Rattle.session.specs.Rowed.{AsOne, Rowed}
 use Rattle.session.proofs.Marking.{any_gives, any_from}
 
-right_back : (r : Right) → right_at (right_number r) ≡ Some r
-right_back Select = refl
-right_back Insert = refl
-right_back Update = refl
-right_back Delete = refl
-right_back Alter = refl
-right_back Execute = refl
-right_back Impersonate = refl
-
 -- rights of one number are one right
-pub same_right_lem : (r s : Right) → right_number r ≡ right_number s → r ≡ s
-same_right_lem r s e = let both : Some r ≡ Some s = sym (right_back r) ∙ ap right_at e ∙ right_back s in cc
+same_right_lem : (r s : Right) → right_number r ≡ right_number s → r ≡ s
+same_right_lem = search rules
 
 -- Who has a right for an account
 
@@ -67,7 +56,11 @@ module _ (L : Lists) (S : State) (a : ℕ) where
   can_as (MayGrant.itself h) = (a, AsOne.itself, h)
   can_as (MayGrant.in_role {q = q} i h) = (q, in_as i, h)
 
-module _ (L : Lists) (s : Sound L) (ms : List Member) (a : ℕ) (who : List RightSet) (counts : (q : ℕ) → Decides (told who q 0) (AsOne L ms a q)) where
+-- what something is in has a number below 96
+place_small : (L : Lists) → Sound L → {e d : ℕ} → Within L.entities e d → d < 96
+place_small L s {d = d} w = let most = few L s in let low = below_stands L.entities d (place_stands L.entities w) in omega arith
+
+module _ (L : Lists) (ms : List Member) (a : ℕ) (who : List RightSet) (counts : (q : ℕ) → Decides (told who q 0) (AsOne L ms a q)) where
   -- a record of a principal that counts as the account
   record Counted (o : Bool) (gs : List RightRecord) (x : ℕ) (r : Right) : Type 0 where
     q : ℕ
@@ -80,7 +73,7 @@ module _ (L : Lists) (s : Sound L) (ms : List Member) (a : ℕ) (who : List Righ
   record_is x r g e f =
       ap (λ (z : ℕ). right_record g.principal z r g.option) e ∙ ap (λ z. right_record g.principal g.entity z g.option) f
 
-  counted_gives : (o : Bool) (gs : List RightRecord) (x : ℕ) (r : Right) → any (gives_right who o x (right_number r)) gs ≡ true → Counted o gs x r
+  counted_gives : (o : Bool) (gs : List RightRecord) (x : ℕ) (r : Right) → list_any (gives_right who o x (right_number r)) gs ≡ true → Counted o gs x r
   counted_gives o gs x r t =
       let (g, i, h) = any_gives (gives_right who o x (right_number r)) gs t in
       let p = and_parts ((g.option || not o) && told who g.principal 0) (eqb x g.entity && eqb (right_number r) (right_number g.right)) h in
@@ -94,7 +87,7 @@ module _ (L : Lists) (s : Sound L) (ms : List Member) (a : ℕ) (who : List Righ
         able = u.0;
       }
 
-  counted_from : (o : Bool) (gs : List RightRecord) (x : ℕ) (r : Right) → Counted o gs x r → any (gives_right who o x (right_number r)) gs ≡ true
+  counted_from : (o : Bool) (gs : List RightRecord) (x : ℕ) (r : Right) → Counted o gs x r → list_any (gives_right who o x (right_number r)) gs ≡ true
   counted_from o gs x r c =
       any_from (gives_right who o x (right_number r)) c.there
       (and_from _ _ (and_from _ _ c.able ((counts c.q).1 c.same)) (and_from _ _ (eq-eqb x x refl) (eq-eqb (right_number r) (right_number r) refl)))
@@ -109,98 +102,67 @@ module _ (L : Lists) (s : Sound L) (ms : List Member) (a : ℕ) (who : List Righ
   owned_from : (d q : ℕ) → AsOne L ms a q → Owns L q d → owned who L.entities d ≡ true
   owned_from d q w o = ap (owner_marked who) o.there ∙ (counts o.entity.owner).1 (subst (AsOne L ms a) (sym o.owner) w)
 
-  -- what something is in has a number below 96
-  place_small : {e d : ℕ} → Within L.entities e d → d < 96
-  place_small {e} {d} w = let most = few L s in let low = below_stands L.entities d (place_stands L.entities w) in omega arith
-
-  module _ (rows : List ℕ) (places : (x y : ℕ) → Decides (leq rows x y) (Within L.entities x y)) (rs gs : List RightRecord) where
+  -- the entities that are owned are marked in full
+  module _ (s : Sound L) (gs : List RightRecord) (own : ℕ → ℕ → Bool)
+      (marks : (d k : ℕ) → d < 96 → own d k ≡ (owned who L.entities d && ltb k 7)) where
     -- a state with these records
     abbrev plain : State
-    plain = record { acted = []; rights = rs ++ gs; members = ms; planted = []; entered = [] }
+    plain = record { acted = []; rights = gs; members = ms; planted = []; entered = [] }
 
-    module _ (base held : ℕ → ℕ → Bool)
-        (marks : (d : ℕ) (r : Right) → d < 96
-        → base d (right_number r) ≡ ((owned who L.entities d || any (gives_right who false d (right_number r)) rs) || any (gives_right who false d (right_number r)) gs))
-        (spreads : (x k : ℕ) → x < 96 → Decides (held x k) (Carried (λ x y. leq rows x y ≡ true) base 96 x k)) where
-      to_holds : (e d : ℕ) (r : Right) → Within L.entities e d → base d (right_number r) ≡ true → Holds L plain a e r
-      to_holds e d r w t =
+    own_gives : (d k : ℕ) → d < 96 → own d k ≡ true → (q : ℕ) × AsOne L ms a q × Owns L q d
+    own_gives d k h t = owned_gives d (and_parts (owned who L.entities d) _ (sym (marks d k h) ∙ t)).0
+
+    own_from : (d q : ℕ) (r : Right) → d < 96 → AsOne L ms a q → Owns L q d → own d (right_number r) ≡ true
+    own_from d q r h w o = marks d (right_number r) h ∙ and_from _ _ (owned_from d q w o) (lt-ltb (right_number r) 7 (right_small r))
+
+    module _ (held : ℕ → ℕ → Bool)
+        (tells : (x k : ℕ) → x < 96
+        → Decides (held x k) (Carried (Within L.entities) (λ d j. own d j || list_any (gives_right who false d j) gs) 96 x k)) where
+      to_holds : (e : ℕ) (r : Right) → Carried (Within L.entities) (λ d j. own d j || list_any (gives_right who false d j) gs) 96 e (right_number r) → Holds L plain a e r
+      to_holds e r c =
           ⊎_elim
-          (λ u. ⊎_elim
-          (λ v. let (q, i, o) = owned_gives d v in as_has L plain a i (Has.by_owning w o))
-          (λ v. let c : Counted false rs d r = counted_gives false rs d r v in as_has L plain a c.same (by_record w (Memᴰ.append_left gs c.there)))
-          (or_cases (owned who L.entities d) _ u))
-          (λ v. let c : Counted false gs d r = counted_gives false gs d r v in as_has L plain a c.same (by_record w (Memᴰ.append_right rs c.there)))
-          (or_cases (owned who L.entities d || any (gives_right who false d (right_number r)) rs) _ (sym (marks d r (place_small w)) ∙ t))
+          (λ t. let (q, i, o) = own_gives c.from (right_number r) c.small t in as_has L plain a i (Has.by_owning c.over o))
+          (λ t. let n : Counted false gs c.from r = counted_gives false gs c.from r t in as_has L plain a n.same (by_record c.over n.there))
+          (or_cases (own c.from (right_number r)) _ c.has)
 
-      from_has : (e q : ℕ) (r : Right) → AsOne L ms a q → Has L plain q e r → (d : ℕ) × Within L.entities e d × (base d (right_number r) ≡ true)
-      from_has e q r i (by_record {d = d} {o = o} w m) =
-          let counted : (xs : List RightRecord) → right_record q d r o ∈ xs → any (gives_right who false d (right_number r)) xs ≡ true =
-          λ xs n. counted_from false xs d r (record { q = q; option = o; same = i; there = n; able = or_right o _ refl }) in (
-            d,
-            w,
-            marks d r (place_small w) ∙ ⊎_elim
-                (λ n. or_left _ _ (or_right (owned who L.entities d) _ (counted rs n)))
-                (λ n. or_right (owned who L.entities d || any (gives_right who false d (right_number r)) rs) _ (counted gs n))
-                (Memᴰ.append_cases rs m),
-          )
-      from_has e q r i (Has.by_owning {d = d} w o) = (d, w, marks d r (place_small w) ∙ or_left _ _ (or_left _ _ (owned_from d q i o)))
+      from_has : (e q : ℕ) (r : Right) → AsOne L ms a q → Has L plain q e r
+          → Carried (Within L.entities) (λ d j. own d j || list_any (gives_right who false d j) gs) 96 e (right_number r)
+      from_has e q r i (by_record {d = d} {o = o} w m) = record {
+        from = d;
+        small = place_small L s w;
+        over = w;
+        has = or_right (own d (right_number r)) _ (counted_from false gs d r (record { q = q; option = o; same = i; there = m; able = or_right o _ refl }));
+      }
+      from_has e q r i (Has.by_owning {d = d} w o) =
+          record { from = d; small = place_small L s w; over = w; has = or_left _ _ (own_from d q r (place_small L s w) i o) }
 
       pub holds_told : (e : ℕ) (r : Right) → e < 96 → Decides (held e (right_number r)) (Holds L plain a e r)
       holds_told e r l = (
-        λ t. let c = (spreads e (right_number r) l).0 t in to_holds e c.from r ((places e c.from).0 c.over) c.has,
-        λ u. let (q, i, p) = has_as L plain a u in
-            let (d, w, t) = from_has e q r i p in
-            (spreads e (right_number r) l).1 (record { from = d; small = place_small w; over = (places e d).1 w; has = t }),
+        λ t. to_holds e r ((tells e (right_number r) l).0 t),
+        λ u. let (q, i, p) = has_as L plain a u in (tells e (right_number r) l).1 (from_has e q r i p),
       )
 
-    module _ (base first granted : ℕ → ℕ → Bool)
-        (marks : (d : ℕ) (r : Right) → d < 96 → base d (right_number r) ≡ owned who L.entities d)
-        (spreads : (x k : ℕ) → x < 96 → Decides (first x k) (Carried (λ x y. leq rows x y ≡ true) base 96 x k))
-        (more : (x : ℕ) (r : Right) → x < 96
-        → granted x (right_number r) ≡ ((first x (right_number r) || any (gives_right who true x (right_number r)) rs) || any (gives_right who true x (right_number r)) gs)) where
-      by_own : (e : ℕ) (r : Right) → Carried (λ x y. leq rows x y ≡ true) base 96 e (right_number r) → MayGrant L plain a e r
-      by_own e r c =
-          let (q, i, o) = owned_gives c.from (sym (marks c.from r c.small) ∙ c.has) in
-          as_can L plain a i (CanGrant.by_owning ((places e c.from).0 c.over) o)
+    module _ (granted : ℕ → ℕ → Bool)
+        (tells : (x k : ℕ) → x < 96
+        → Decides (granted x k) (Carried (Within L.entities) own 96 x k ⊎ (list_any (gives_right who true x k) gs ≡ true))) where
+      by_own : (e : ℕ) (r : Right) → Carried (Within L.entities) own 96 e (right_number r) → MayGrant L plain a e r
+      by_own e r c = let (q, i, o) = own_gives c.from (right_number r) c.small c.has in as_can L plain a i (CanGrant.by_owning c.over o)
 
-      with_option : (hs : List RightRecord) (e : ℕ) (r : Right) → ((g : RightRecord) → g ∈ hs → g ∈ (rs ++ gs)) → Counted true hs e r → MayGrant L plain a e r
-      with_option hs e r sub c =
-          as_can L plain a c.same (by_option (Memᴰ.cast (ap (right_record c.q e r) (sym (sym (or-false c.option) ∙ c.able))) (sub _ c.there)))
+      with_option : (e : ℕ) (r : Right) → Counted true gs e r → MayGrant L plain a e r
+      with_option e r c =
+          as_can L plain a c.same (by_option (Memᴰ.cast (ap (right_record c.q e r) (sym (sym (or-false c.option) ∙ c.able))) c.there))
 
-      from_can : (e q : ℕ) (r : Right) → e < 96 → AsOne L ms a q → CanGrant L plain q e r → granted e (right_number r) ≡ true
-      from_can e q r l i (by_option m) =
-          let counted : (xs : List RightRecord) → right_record q e r true ∈ xs → any (gives_right who true e (right_number r)) xs ≡ true =
-          λ xs n. counted_from true xs e r (record { q = q; option = true; same = i; there = n; able = refl }) in
-          more e r l ∙ ⊎_elim
-          (λ n. or_left _ _ (or_right (first e (right_number r)) _ (counted rs n)))
-          (λ n. or_right (first e (right_number r) || any (gives_right who true e (right_number r)) rs) _ (counted gs n))
-          (Memᴰ.append_cases rs m)
-      from_can e q r l i (CanGrant.by_owning {d = d} w o) =
-          let small = place_small w in
-          more e r l ∙ or_left _ _ (or_left _ _
-          ((spreads e (right_number r) l).1 (record { from = d; small = small; over = (places e d).1 w; has = marks d r small ∙ owned_from d q i o })))
+      from_can : (e q : ℕ) (r : Right) → AsOne L ms a q → CanGrant L plain q e r
+          → Carried (Within L.entities) own 96 e (right_number r) ⊎ (list_any (gives_right who true e (right_number r)) gs ≡ true)
+      from_can e q r i (by_option m) = inr (counted_from true gs e r (record { q = q; option = true; same = i; there = m; able = refl }))
+      from_can e q r i (CanGrant.by_owning {d = d} w o) =
+          inl (record { from = d; small = place_small L s w; over = w; has = own_from d q r (place_small L s w) i o })
 
       pub grants_told : (e : ℕ) (r : Right) → e < 96 → Decides (granted e (right_number r)) (MayGrant L plain a e r)
       grants_told e r l = (
-        λ t. ⊎_elim
-            (λ u. ⊎_elim
-            (λ v. by_own e r ((spreads e (right_number r) l).0 v))
-            (λ v. with_option rs e r (λ g m. Memᴰ.append_left gs m) (counted_gives true rs e r v))
-            (or_cases (first e (right_number r)) _ u))
-            (λ v. with_option gs e r (λ g m. Memᴰ.append_right rs m) (counted_gives true gs e r v))
-            (or_cases (first e (right_number r) || any (gives_right who true e (right_number r)) rs) _ (sym (more e r l) ∙ t)),
-        λ u. let (q, i, p) = can_as L plain a u in from_can e q r l i p,
+        λ t. ⊎_elim (by_own e r) (λ n. with_option e r (counted_gives true gs e r n)) ((tells e (right_number r) l).0 t),
+        λ u. let (q, i, p) = can_as L plain a u in (tells e (right_number r) l).1 (from_can e q r i p),
       )
-
--- The rows in any state with the records
-
--- a mark in full, seen at a right
-pub own_is : (b0 b1 o : Bool) (r : Right) → b0 ≡ false → b1 ≡ (b0 || (o && ltb (right_number r) 7)) → b1 ≡ o
-own_is b0 b1 o r e f =
-    f ∙ ap (λ (z : Bool). z || (o && ltb (right_number r) 7)) e ∙ ap (λ (z : Bool). o && z) (lt-ltb (right_number r) 7 (right_small r)) ∙ and-true o
-
-pub more_is : (b1 b2 b3 b p q : Bool) → b1 ≡ b → b2 ≡ (b1 || p) → b3 ≡ (b2 || q) → b3 ≡ ((b || p) || q)
-more_is b1 b2 b3 b p q e f g = g ∙ ap (λ (z : Bool). z || q) (f ∙ ap (λ (z : Bool). z || p) e)
 
 -- rows that tell of one state tell of any state with the same records
 pub rowed_any : (L : Lists) (a : ℕ) (held granted : List RightSet) (S T : State)

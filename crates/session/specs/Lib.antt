@@ -1,3 +1,4 @@
+pub mod Tabled
 pub mod Models
 pub mod Marks
 pub mod Rowed

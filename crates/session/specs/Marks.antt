@@ -1,5 +1,5 @@
--- What is marked in a row from a list of records.
-use Rattle.std.specs.Prelude.{ℕ, Bool, false, not, ◌&&◌, ◌||◌, List, [], ◌∷◌, Some, None, Option, ◌==◌}
+-- What is marked in a row.
+use Rattle.std.specs.Prelude.{◌≡◌, ℕ, ◌<◌, Bool, false, not, ◌&&◌, ◌||◌, List, Some, None, Option, ◌==◌, nat_lt, Decides}
 use Rattle.std.specs.List.{slice_get}
 use Rattle.access.specs.declared.entities.Entity.{Entity}
 use Rattle.access.specs.declared.rights.RightRecord.{RightRecord}
@@ -8,14 +8,21 @@ use Rattle.access.specs.declared.sets.RightSet.{RightSet}
 use Rattle.access.specs.Numbers.{right_number}
 use Rattle.access.specs.Sets.{told}
 
--- some element passes
-abbrev pub any : {A : Type 0} → (A → Bool) → List A → Bool
-any p [] = false
-any p (x ∷ xs) = p x || any p xs
+-- each entity gets the marks that p gives it, beside those that it had
+abbrev pub Adds : List RightSet → List RightSet → (ℕ → ℕ → Bool) → Type 0
+Adds old new p = (x k : ℕ) → x < 96 → told new x k ≡ (told old x k || p x k)
+
+-- the row marks right k at x exactly where P holds of them
+abbrev pub Says : List RightSet → (ℕ → ℕ → Type 0) → Type 0
+Says sets P = (x k : ℕ) → x < 96 → Decides (told sets x k) (P x k)
 
 -- the record puts account a into role x
 abbrev pub in_role_of : ℕ → ℕ → Member → Bool
 in_role_of a x m = m.account == a && x == m.role
+
+-- the same, with all seven rights as the mark
+abbrev pub marks_role : ℕ → ℕ → ℕ → Member → Bool
+marks_role a x k m = in_role_of a x m && nat_lt k 7
 
 -- the record is of right k on x, with the option where o asks it, and its principal is marked
 abbrev pub gives_right : List RightSet → Bool → ℕ → ℕ → RightRecord → Bool

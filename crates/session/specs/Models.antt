@@ -1,10 +1,8 @@
--- What a model means, and what holds of it once a catalogue is loaded.
-use Rattle.std.specs.Prelude.{ℕ, vec_items, Decides}
+-- What a model means, and what holds of every model.
+use Rattle.std.specs.Prelude.{vec_items}
 use Rattle.access.specs.Lists.{Lists}
-use Rattle.access.specs.Orders.{RoleBelow, Within}
-use Rattle.order.specs.Rows.{leq}
-use Rattle.catalogue.specs.Sound.{Sound}
 use Rattle.session.specs.declared.models.Model.{Model}
+use Rattle.session.specs.Tabled.{Tabled}
 
 abbrev pub lists_of : Model → Lists
 lists_of m = record {
@@ -15,8 +13,6 @@ lists_of m = record {
   lines = vec_items m.lines;
 }
 
--- the lists are sound, and the tables tell both orders
-pub record Ready (m : Model) : Type 0 where
-  pub sound : Sound (lists_of m)
-  pub places : (x y : ℕ) → Decides (leq m.places.rows x y) (Within (lists_of m).entities x y)
-  pub roles : (x y : ℕ) → Decides (leq m.roles.rows x y) (RoleBelow (lists_of m).entities (lists_of m).links x y)
+-- what its invariant says of a model
+abbrev pub Ready : Model → Type 0
+Ready m = Tabled (lists_of m) m.places.relation.rows m.roles.relation.rows

@@ -11,7 +11,15 @@ pub struct Workspace {
 }
 
 impl Workspace {
-    pub fn new(heap: Global) -> Result<Workspace, AllocError> {
+    ghost use Rattle.std.specs.Prelude.{◌≡◌, IfOk};
+    ghost use Rattle.access.specs.Lists.{new_lists};
+    ghost use Rattle.session.specs.Models.{lists_of};
+    ghost use Rattle.session.specs.Reached.{Filled};
+
+    pub fn new(heap: Global) -> Result<Workspace, AllocError>
+        ensures model { IfOk result (λ w. lists_of w.model ≡ new_lists) }
+        ensures state { IfOk result (λ w. Filled w.state 0) }
+    {
         let model = Model::new(heap)?;
         let state = RunState::new(heap)?;
         Ok(Workspace { model, state })

@@ -9,12 +9,12 @@ impl Model {
     pub fn entities(&self) -> &[Entity]
         ensures { result.now ≡ (lists_of self.now).entities }
     {
-        self.entities.as_slice()
+        &self.entities
     }
 
     pub fn lines(&self) -> &[Line]
         ensures { result.now ≡ (lists_of self.now).lines }
     {
-        self.lines.as_slice()
+        &self.lines
     }
 }

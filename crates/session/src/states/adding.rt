@@ -1,5 +1,5 @@
 // How the state of a run begins, and what each step adds to it.
-ghost use Rattle.std.specs.Prelude.{◌≡◌, ℕ, ◌+◌};
+ghost use Rattle.std.specs.Prelude.{◌≡◌, ℕ, ◌+◌, IfOk};
 ghost use Rattle.access.specs.Lists.{Lists};
 ghost use Rattle.runs.specs.States.{start as opened, done as after_action};
 ghost use Rattle.runs.specs.Runs.{after, worker as worker_of};
@@ -21,8 +21,10 @@ pub fn worker(runner: Runner, caller: u8) -> u8
 }
 
 impl RunState {
-    // It takes the memory for what 4,096 steps add, so that no later call wants more.
-    pub fn new(heap: Global) -> Result<RunState, AllocError> {
+    // A state to which no step has added. It takes the memory for what 4,096 steps add, so that no later call wants more.
+    pub fn new(heap: Global) -> Result<RunState, AllocError>
+        ensures { IfOk result (λ s. Filled s 0) }
+    {
         let acted = Vec::with_capacity(heap, 4097)?;
         let grants = Vec::with_capacity(heap, 4096)?;
         let joins = Vec::with_capacity(heap, 4096)?;
@@ -51,6 +53,7 @@ impl RunState {
     }
 
     // Adds what an account's action adds.
+    #[tactic(auto, using(crate::proofs::Reaching::before_push))]
     fn act(&mut self, account: u8, action: Action)
         requires { Filled self.old 4095 }
         ensures state { (L : Lists) → state_of L self.new ≡ after_action (state_of L self.old) account action }
@@ -70,8 +73,8 @@ impl RunState {
         ensures few { (n : ℕ) → Filled self.old n → Filled self.new (n + 1) }
     {
         match step {
-            Step::Switch { actor: _, to } => self.acted.push_reserved(to),
-            Step::Plant { actor: _, line } => self.planted.push_reserved(line),
+            Step::Switch { to, .. } => self.acted.push_reserved(to),
+            Step::Plant { line, .. } => self.planted.push_reserved(line),
             Step::Grant { actor, record } => self.act(actor, Action::Grant(record)),
             Step::Join { actor, member } => self.act(actor, Action::Join(member)),
             Step::Call { actor, object } => self.act(actor, Action::Call(object)),

@@ -1,9 +1,7 @@
-use Rattle.std.proofs.Common.{◌≡◌, ℕ, ◌<◌, ◌&&◌, ◌||◌, ltb}
-use Rattle.access.specs.Sets.{told}
-use Rattle.session.specs.Marks.{owned}
+use Rattle.std.proofs.Common.{◌&&◌, ltb, take}
+use Rattle.session.specs.Marks.{Adds, owned}
 use Rattle.session.proofs.marks.add_owned.Given as goal
 
 abbrev pub invariant-loop-i : goal.invariant-loop-i
 invariant-loop-i l =
-    (x k : ℕ) → x < 96
-    → told l.row.sets x k ≡ (told l.initial.row.sets x k || ((ltb x l.i && owned l.who.sets l.entities x) && ltb k 7))
+    Adds l.initial.row.sets l.row.sets (λ x k. owned l.who.sets (take l.i l.entities) x && ltb k 7)

@@ -1,9 +1,8 @@
-use Rattle.std.proofs.Common.{◌≡◌, ℕ, ◌<◌, ◌||◌, take}
-use Rattle.access.specs.Sets.{told}
-use Rattle.session.specs.Marks.{any, gives_right}
+use Rattle.std.proofs.Common.{take}
+use Rattle.std.specs.List.{list_any}
+use Rattle.session.specs.Marks.{Adds, gives_right}
 use Rattle.session.proofs.marks.add_records.Given as goal
 
 abbrev pub invariant-loop-g : goal.invariant-loop-g
 invariant-loop-g l =
-    (x k : ℕ) → x < 96
-    → told l.row.sets x k ≡ (told l.initial.row.sets x k || any (gives_right l.who.sets l.option x k) (take l.g-index l.records))
+    Adds l.initial.row.sets l.row.sets (λ x k. list_any (gives_right l.who.sets l.option x k) (take l.g-index l.records))
