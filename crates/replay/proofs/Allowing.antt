@@ -1,9 +1,8 @@
 -- A step is allowed exactly when who does it can begin it and the rows of that account give what it asks.
-use Rattle.std.proofs.Common.{◌≡◌, ℕ, ◌<◌, Bool, List, ◌++◌, vec_items, Decides, sym, subst, inl, inr, ⊎_elim}
+use Rattle.std.proofs.Common.{ℕ, ◌<◌, Bool, List, ◌++◌, vec_items, Decides, inl, inr, ⊎_elim}
+use Rattle.std.proofs.lemmas.Bool.Decides.{Decides-like}
 use mathlib.Core.List.Memᴰ
 use Rattle.access.specs.declared.rights.Right.{Right}
-use Rattle.access.specs.declared.rights.RightRecord.{RightRecord}
-use Rattle.access.specs.declared.roles.Member.{Member}
 use Rattle.access.specs.declared.sets.RightSet.{RightSet}
 use Rattle.access.specs.declared.code.Object.{Object}
 use Rattle.access.specs.declared.code.Runner.{Runner}
@@ -17,7 +16,7 @@ use Rattle.runs.specs.declared.steps.Step.TheVariants.{Switch, Grant, Join, Plan
 use Rattle.runs.specs.Standing.{a_grant}
 use Rattle.runs.specs.States.{State, Sub}
 use Rattle.runs.specs.Rights.{Holds, MayGrant}
-use Rattle.runs.specs.Runs.{worker, Lends, the_caller, an_account, MayDo, by_right, by_owner, by_grant, by_alter, Allowed, switch, grant, join, plant, call, follow}
+use Rattle.runs.specs.Runs.{Lends, the_caller, an_account, MayDo, by_right, by_owner, by_grant, by_alter, Allowed, switch, grant, join, plant, call, follow}
 use Rattle.runs.proofs.RightLaws.{holds_stands}
 use Rattle.session.specs.Reached.{state_of, before}
 use Rattle.session.specs.Rowed.{Rowed, Recorded}
@@ -29,12 +28,12 @@ use Rattle.replay.proofs.Smalls.{stands_small, line_small}
 
 -- the records of the state are the catalogue's and those that came
 swapped : {A : Type 0} (xs ys : List A) → Sub (before xs ys) (ys ++ xs)
-swapped xs ys x m = ⊎_elim (λ n. Memᴰ.append_right ys n) (λ n. Memᴰ.append_left xs n) (from_before xs ys m)
+swapped xs ys x m = ⊎_elim (Memᴰ.append_right ys) (Memᴰ.append_left xs) (from_before xs ys m)
 
 swapped_back : {A : Type 0} (xs ys : List A) → Sub (ys ++ xs) (before xs ys)
-swapped_back xs ys x m = ⊎_elim (λ n. last_in xs ys n) (λ n. first_in xs ys n) (Memᴰ.append_cases ys m)
+swapped_back xs ys x m = ⊎_elim (last_in xs ys) (first_in xs ys) (Memᴰ.append_cases ys m)
 
-recorded : (L : Lists) (s : RunState) → Recorded L (vec_items s.grants) (vec_items s.joins) (state_of L s)
+pub recorded : (L : Lists) (s : RunState) → Recorded L (vec_items s.grants) (vec_items s.joins) (state_of L s)
 recorded L s = record {
   rights = swapped (vec_items s.grants) L.rights;
   all_rights = swapped_back (vec_items s.grants) L.rights;
@@ -42,68 +41,59 @@ recorded L s = record {
   all_members = swapped_back (vec_items s.joins) L.members;
 }
 
-pub recorded_as : (L : Lists) (s : RunState) (gs : List RightRecord) (js : List Member) → gs ≡ vec_items s.grants → js ≡ vec_items s.joins → Recorded L gs js (state_of L s)
-recorded_as L s gs js p q =
-    subst (λ (xs : List RightRecord). Recorded L xs js (state_of L s)) (sym p)
-    (subst (λ (ys : List Member). Recorded L (vec_items s.grants) ys (state_of L s)) (sym q) (recorded L s))
+module _ {L : Lists} {S : State} where
+  module _ (s : Sound L) {a : ℕ} {held granted : List RightSet} (w : Rowed L S a held granted) where
+    held_from : {e : ℕ} {r : Right} → Holds L S a e r → Tells held e r
+    held_from {e} {r} h = let l = stands_small s e (holds_stands h) in (l, (w.holds e r l).1 h)
 
-pub allowed_opens : (L : Lists) (S : State) {t : Step} → Allowed L S t → Opens L S t
-allowed_opens L S (switch m i h) = m
-allowed_opens L S (grant m i h) = m
-allowed_opens L S (join m i h) = m
-allowed_opens L S (plant m i h n t) = m
-allowed_opens L S (call m i h) = m
-allowed_opens L S (follow m i h) = (m, i)
+    held_to : (e : ℕ) (r : Right) → Tells held e r → Holds L S a e r
+    held_to e r t = (w.holds e r t.0).0 t.1
 
-module _ (L : Lists) (s : Sound L) (S : State) (a : ℕ) (held granted : List RightSet) (w : Rowed L S a held granted) where
-  held_from : {e : ℕ} {r : Right} → Holds L S a e r → Tells held e r
-  held_from {e} {r} h = let l = stands_small L s e (holds_stands h) in (l, (w.holds e r l).1 h)
+    granted_from : {e : ℕ} {r : Right} → e < 96 → MayGrant L S a e r → Tells granted e r
+    granted_from {e} {r} l h = (l, (w.grants e r l).1 h)
 
-  held_to : {e : ℕ} {r : Right} → Tells held e r → Holds L S a e r
-  held_to {e} {r} t = (w.holds e r t.0).0 t.1
+    granted_to : (e : ℕ) (r : Right) → Tells granted e r → MayGrant L S a e r
+    granted_to e r t = (w.grants e r t.0).0 t.1
 
-  granted_from : {e : ℕ} {r : Right} → e < 96 → MayGrant L S a e r → Tells granted e r
-  granted_from {e} {r} l h = (l, (w.grants e r l).1 h)
+    lends_from : {n : Runner} → Lends L S a n → LendsBy L held granted n
+    lends_from the_caller = tt
+    lends_from (an_account i h) = (i, held_from h)
 
-  granted_to : {e : ℕ} {r : Right} → Tells granted e r → MayGrant L S a e r
-  granted_to {e} {r} t = (w.grants e r t.0).0 t.1
+    lends_to : (n : Runner) → LendsBy L held granted n → Lends L S a n
+    lends_to runner.Caller t = the_caller
+    lends_to (runner.Account v) t = an_account t.0 (held_to _ _ t.1)
 
-  lends_from : {n : Runner} → Lends L S a n → LendsBy L held granted n
-  lends_from the_caller = tt
-  lends_from (an_account i h) = (i, held_from h)
+    does_from : {x : Object} {t : Action} → GrantsSmall t → MayDo L S x a t → DoesBy L held granted x t
+    does_from q (by_right h) = inl (held_from h)
+    does_from q (by_owner o) = inr o
+    does_from q (by_grant h) = granted_from q h
+    does_from q (by_alter h) = held_from h
 
-  lends_to : (n : Runner) → LendsBy L held granted n → Lends L S a n
-  lends_to runner.Caller t = the_caller
-  lends_to (runner.Account v) t = an_account t.0 (held_to t.1)
+    does_to : (x : Object) (t : Action) → DoesBy L held granted x t → MayDo L S x a t
+    does_to x (action.Call y) (inl h) = by_right (held_to _ _ h)
+    does_to x (action.Call y) (inr o) = by_owner o
+    does_to x (action.Grant g) h = by_grant (granted_to _ _ h)
+    does_to x (action.Join m) h = by_alter (held_to _ _ h)
 
-  does_from : {x : Object} {t : Action} → GrantsSmall t → MayDo L S x a t → DoesBy L held granted x t
-  does_from q (by_right h) = inl (held_from h)
-  does_from q (by_owner o) = inr o
-  does_from q (by_grant h) = granted_from q h
-  does_from q (by_alter h) = held_from h
+    pub holds_told : {e : ℕ} {r : Right} {b : Bool} → Decides b (Tells held e r) → Decides b (Holds L S a e r)
+    holds_told = Decides-like _ (held_to _ _) held_from
 
-  does_to : (x : Object) (t : Action) → DoesBy L held granted x t → MayDo L S x a t
-  does_to x (action.Call y) (inl h) = by_right (held_to h)
-  does_to x (action.Call y) (inr o) = by_owner o
-  does_to x (action.Grant g) h = by_grant (granted_to h)
-  does_to x (action.Join m) h = by_alter (held_to h)
+  module _ (s : Sound L) (g : Small S) {held granted : List RightSet} where
+    fits_from : {t : Step} → Rowed L S (doer_of t) held granted → Allowed L S t → Fits L held granted t
+    fits_from w (switch m i h) = (i, held_from s w h)
+    fits_from w (grant {g = r} m (a_grant p e) h) = (a_grant p e, granted_from s w (stands_small s r.entity e) h)
+    fits_from w (join m i h) = (i, held_from s w h)
+    fits_from w (plant m i h n t) = (i, held_from s w h, lends_from s w n, t)
+    fits_from w (call m i h) = (i, held_from s w h)
+    fits_from w (follow m i h) = does_from s w (line_small s g i).grants h
 
-  pub holds_told : (e : ℕ) (r : Right) (b : Bool) → Decides b (Tells held e r) → Decides b (Holds L S a e r)
-  holds_told e r b d = (λ t. held_to (d.0 t), λ h. d.1 (held_from h))
+    fits_to : (t : Step) → Rowed L S (doer_of t) held granted → Opens L S t → Fits L held granted t → Allowed L S t
+    fits_to (Switch a v) w m f = switch m f.0 (held_to s w _ _ f.1)
+    fits_to (Grant a r) w m f = grant m f.0 (granted_to s w _ _ f.1)
+    fits_to (Join a r) w m f = join m f.0 (held_to s w _ _ f.1)
+    fits_to (Plant a l) w m f = plant m f.0 (held_to s w _ _ f.1) (lends_to s w l.runner f.2) f.3
+    fits_to (Call a x) w m f = call m f.0 (held_to s w _ _ f.1)
+    fits_to (Follow v l) w m f = follow m.0 m.1 (does_to s w l.object l.action f)
 
-module _ (L : Lists) (s : Sound L) (S : State) (g : Small S) where
-  pub allowed_fits : (held granted : List RightSet) {t : Step} → Rowed L S (doer_of t) held granted → Allowed L S t → Fits L held granted t
-  allowed_fits hs gs w (switch {a = a} m i h) = (i, held_from L s S a hs gs w h)
-  allowed_fits hs gs w (grant {a = a} {g = r} m (a_grant p e) h) = (a_grant p e, granted_from L s S a hs gs w (stands_small L s r.entity e) h)
-  allowed_fits hs gs w (join {a = a} m i h) = (i, held_from L s S a hs gs w h)
-  allowed_fits hs gs w (plant {a = a} m i h n t) = (i, held_from L s S a hs gs w h, lends_from L s S a hs gs w n, t)
-  allowed_fits hs gs w (call {a = a} m i h) = (i, held_from L s S a hs gs w h)
-  allowed_fits hs gs w (follow {v = v} {l = l} m i h) = does_from L s S (worker l.runner v) hs gs w (line_small L s S g l i).grants h
-
-  pub fits_allowed : (held granted : List RightSet) (t : Step) → Rowed L S (doer_of t) held granted → Opens L S t → Fits L held granted t → Allowed L S t
-  fits_allowed hs gs (Switch a v) w m f = switch m f.0 (held_to L s S a hs gs w f.1)
-  fits_allowed hs gs (Grant a r) w m f = grant m f.0 (granted_to L s S a hs gs w f.1)
-  fits_allowed hs gs (Join a r) w m f = join m f.0 (held_to L s S a hs gs w f.1)
-  fits_allowed hs gs (Plant a l) w m f = plant m f.0 (held_to L s S a hs gs w f.1) (lends_to L s S a hs gs w l.runner f.2) f.3
-  fits_allowed hs gs (Call a x) w m f = call m f.0 (held_to L s S a hs gs w f.1)
-  fits_allowed hs gs (Follow v l) w m f = follow m.0 m.1 (does_to L s S (worker l.runner v) hs gs w l.object l.action f)
+    pub allowed_told : {t : Step} {b : Bool} → Rowed L S (doer_of t) held granted → Opens L S t → Decides b (Fits L held granted t) → Decides b (Allowed L S t)
+    allowed_told {t} w o = Decides-like _ (fits_to t w o) (fits_from w)

@@ -38,6 +38,12 @@ module _ (L : Lists) (S : State) where
   Opens (Call a x) = a ∈ S.acted
   Opens (Follow v l) = (pair l.object v ∈ S.entered) × LineStands L S l
 
+-- what an account can do: the lists of a catalogue, and its rows of what it holds and may grant
+pub record Powers : Type 0 where
+  pub lists : Lists
+  pub holds : List RightSet
+  pub grants : List RightSet
+
 -- the row has the right on e
 abbrev pub Tells : List RightSet → ℕ → Right → Type 0
 Tells row e r = (e < 96) × (told row e (right_number r) ≡ true)

@@ -1,4 +1,6 @@
 pub mod Fits
+pub mod Situations
 pub mod Good
 pub mod Replays
+pub mod Questions
 pub mod Laws

@@ -1,5 +1,5 @@
 // Whether what a step asks stands in the rows of the account that does it.
-ghost use Rattle.std.specs.Prelude.{◌≡◌, Decides};
+ghost use Rattle.std.specs.Prelude.{◌≡◌, ◌<◌, true, Decides};
 ghost use Rattle.access.specs.declared.rights.Right.TheVariants.{Alter as ToAlter};
 ghost use Rattle.access.specs.Places.{place_of};
 ghost use Rattle.runs.specs.Standing.{IsObject, Proper, entry_right};
@@ -29,56 +29,90 @@ fn entry_right(x: Object) -> Right
     }
 }
 
-fn enters(row: &Row, x: Object) -> bool
-    ensures { Decides result (Enters row.now.sets x) }
-{
-    tells(row, x.place(), entry_right(x))
+// The account that does a step, as a loaded catalogue and the rows of the account tell of it.
+#[derive(Drop)]
+pub struct Actor<'a> {
+    pub model: &'a Model,
+    pub rows: Rows,
 }
 
-// Whether the account may name the runner in a line that it plants.
-fn lends(model: &Model, rows: &Rows, runner: Runner) -> bool
-    ensures { Decides result (LendsBy (lists_of model.now) rows.now.holds.sets rows.now.grants.sets runner) }
-{
-    match runner {
-        Runner::Caller => true,
-        Runner::Account(w) => is_kind(model, w, Kind::Account)
-            && tells(&rows.holds, w, Right::Impersonate),
+impl<'a> std::marker::Model for Actor<'a> {
+    ghost use Rattle.session.specs.Models.{lists_of};
+    ghost use Rattle.replay.specs.Fits.{Powers};
+
+    ghost Value = { Powers };
+
+    ghost view = { λ a. record { lists = lists_of a.model.now; holds = a.rows.holds.sets; grants = a.rows.grants.sets } };
+}
+
+impl Actor<'_> {
+    // Whether the account holds a right.
+    fn holds(&self, n: u8, right: Right) -> bool
+        ensures { Decides result (Tells self.now.holds n right) }
+    {
+        tells(&self.rows.holds, n, right)
     }
-}
 
-// Whether the account may do the action from an object.
-fn does(model: &Model, rows: &Rows, x: Object, action: Action) -> bool
-    ensures { Decides result (DoesBy (lists_of model.now) rows.now.holds.sets rows.now.grants.sets x action) }
-{
-    match action {
-        Action::Call(y) => enters(&rows.holds, y) || one_owner(model, x, y),
-        Action::Grant(g) => tells(&rows.grants, g.entity, g.right),
-        Action::Join(m) => tells(&rows.holds, m.role, Right::Alter),
+    // Whether the account may grant a right.
+    fn grants(&self, n: u8, right: Right) -> bool
+        ensures { Decides result (Tells self.now.grants n right) }
+    {
+        tells(&self.rows.grants, n, right)
     }
-}
 
-fn plants(model: &Model, rows: &Rows, line: Line) -> bool
-    ensures { Decides result (IsObject (lists_of model.now) line.object × Tells rows.now.holds.sets (place_of line.object) ToAlter × LendsBy (lists_of model.now) rows.now.holds.sets rows.now.grants.sets line.runner × Proper (lists_of model.now) line.action) }
-{
-    is_object(model, line.object)
-        && tells(&rows.holds, line.object.place(), Right::Alter)
-        && lends(model, rows, line.runner)
-        && is_proper(model, line.action)
-}
+    // Whether the account may enter an object.
+    fn enters(&self, x: Object) -> bool
+        ensures { Decides result (Enters self.now.holds x) }
+    {
+        self.holds(x.place(), entry_right(x))
+    }
 
-// Whether the rows give what the step asks.
-pub fn fits(model: &Model, rows: &Rows, step: Step) -> bool
-    ensures { Decides result (Fits (lists_of model.now) rows.now.holds.sets rows.now.grants.sets step) }
-{
-    match step {
-        Step::Switch { to, .. } => is_kind(model, to, Kind::Account)
-            && tells(&rows.holds, to, Right::Impersonate),
-        Step::Grant { record, .. } => is_proper(model, Action::Grant(record))
-            && tells(&rows.grants, record.entity, record.right),
-        Step::Join { member, .. } => is_proper(model, Action::Join(member))
-            && tells(&rows.holds, member.role, Right::Alter),
-        Step::Plant { line, .. } => plants(model, rows, line),
-        Step::Call { object, .. } => is_object(model, object) && enters(&rows.holds, object),
-        Step::Follow { line, .. } => does(model, rows, line.object, line.action),
+    // Whether the account may name the runner in a line that it plants.
+    fn lends(&self, runner: Runner) -> bool
+        ensures { Decides result (LendsBy self.now.lists self.now.holds self.now.grants runner) }
+    {
+        match runner {
+            Runner::Caller => true,
+            Runner::Account(w) => is_kind(self.model, w, Kind::Account)
+                && self.holds(w, Right::Impersonate),
+        }
+    }
+
+    // Whether the account may do the action from an object.
+    fn does(&self, x: Object, action: Action) -> bool
+        ensures { Decides result (DoesBy self.now.lists self.now.holds self.now.grants x action) }
+    {
+        match action {
+            Action::Call(y) => self.enters(y) || one_owner(self.model, x, y),
+            Action::Grant(g) => self.grants(g.entity, g.right),
+            Action::Join(m) => self.holds(m.role, Right::Alter),
+        }
+    }
+
+    // Whether the account may plant a line.
+    fn plants(&self, line: Line) -> bool
+        ensures { Decides result (IsObject self.now.lists line.object × Tells self.now.holds (place_of line.object) ToAlter × LendsBy self.now.lists self.now.holds self.now.grants line.runner × Proper self.now.lists line.action) }
+    {
+        is_object(self.model, line.object)
+            && self.holds(line.object.place(), Right::Alter)
+            && self.lends(line.runner)
+            && is_proper(self.model, line.action)
+    }
+
+    // Whether the account has what the step asks.
+    pub fn fits(&self, step: Step) -> bool
+        ensures { Decides result (Fits self.now.lists self.now.holds self.now.grants step) }
+    {
+        match step {
+            Step::Switch { to, .. } => is_kind(self.model, to, Kind::Account)
+                && self.holds(to, Right::Impersonate),
+            Step::Grant { record, .. } => is_proper(self.model, Action::Grant(record))
+                && self.grants(record.entity, record.right),
+            Step::Join { member, .. } => is_proper(self.model, Action::Join(member))
+                && self.holds(member.role, Right::Alter),
+            Step::Plant { line, .. } => self.plants(line),
+            Step::Call { object, .. } => is_object(self.model, object) && self.enters(object),
+            Step::Follow { line, .. } => self.does(line.object, line.action),
+        }
     }
 }

@@ -1,45 +1,62 @@
-// Which right a question asks for, or why it is declined.
-ghost use Rattle.std.specs.Prelude.{◌≡◌};
-ghost use Rattle.access.specs.Codes.{coded};
-ghost use Rattle.access.specs.Lists.{fits as fits_at, is_account};
-ghost use Rattle.replay.specs.Replays.{question_listed, judged_question};
+// Which question the numbers of a call ask, or why it is declined.
+ghost use Rattle.std.specs.Prelude.{◌≡◌, Err, MatchResult};
+ghost use Rattle.access.specs.Codes.{Names, code};
+ghost use Rattle.replay.specs.Questions.{sense_at, Asks};
+ghost use Rattle.replay.specs.Replays.{judged_question};
 
-use access::{Entity, Kind, Refusal, Right};
-use catalogue::record_at;
+use access::{Entity, Kind, QuestionNumbers, Refusal, Right};
+use catalogue::{kind_at, stands};
 
-fn question_listed(entities: &[Entity], account: u8, sense: u8, entity: u8, right: u8) -> bool
-    ensures { result ≡ question_listed entities.now account sense entity right }
-{
-    record_at(entities, account as usize).is_some()
-        && record_at(entities, entity as usize).is_some()
-        && Right::listed(right).is_some()
-        && sense < 2
+// Who is to have the right at the end: some account that is acted as, or the one that opens the session.
+#[derive(Clone, Copy, PartialEq, Eq)]
+pub enum Sense {
+    Use,
+    Hold,
 }
 
-fn account_at(entities: &[Entity], n: u8) -> bool
-    ensures { result ≡ fits_at is_account entities.now n }
-{
-    match record_at(entities, n as usize) {
-        Some(e) => matches!(e.kind, Kind::Account),
-        None => false,
+// The sense of number 0 or 1.
+impl TryFrom<u8> for Sense {
+    type Error = Refusal;
+
+    ghost try_from_gives = { λ n r. Names (sense_at n) r };
+
+    fn try_from(n: u8) -> Result<Sense, Refusal> {
+        match n {
+            0 => Ok(Sense::Use),
+            1 => Ok(Sense::Hold),
+            _ => Err(Refusal::NotListed),
+        }
     }
 }
 
-// The right that is asked for.
-pub fn judge_question(
-    entities: &[Entity],
-    account: u8,
-    sense: u8,
-    entity: u8,
-    right: u8,
-) -> Result<Right, Refusal>
-    ensures { coded result ≡ judged_question entities.now account sense entity right }
+// Whether a session of the account comes to the right on the entity.
+#[derive(Clone, Copy, PartialEq, Eq)]
+pub struct Question {
+    pub account: u8,
+    pub sense: Sense,
+    pub entity: u8,
+    pub right: Right,
+}
+
+// The question that the numbers ask.
+pub fn judge_question(entities: &[Entity], numbers: QuestionNumbers) -> Result<Question, Refusal>
+    ensures { MatchResult result (Asks entities.now numbers.account numbers.sense numbers.entity numbers.right) (λ refusal. judged_question entities.now numbers.account numbers.sense numbers.entity numbers.right ≡ Err (code refusal)) }
 {
-    if !question_listed(entities, account, sense, entity, right) {
+    let sense = Sense::try_from(numbers.sense)?;
+    let right = Right::try_from(numbers.right)?;
+    let Some(kind) = kind_at(entities, numbers.account) else {
+        return Err(Refusal::NotListed);
+    };
+    if !stands(entities, numbers.entity) {
         return Err(Refusal::NotListed);
     }
-    if !account_at(entities, account) {
+    if kind != Kind::Account {
         return Err(Refusal::WrongKind);
     }
-    Ok(Right::listed(right).unwrap_or(Right::Select))
+    Ok(Question {
+        account: numbers.account,
+        sense,
+        entity: numbers.entity,
+        right,
+    })
 }

@@ -1,44 +1,40 @@
 // What stands in a loaded catalogue, and what fits its place.
-ghost use Rattle.std.specs.Prelude.{◌≡◌, Decides, ◌==◌};
-ghost use Rattle.access.specs.declared.code.Object.TheVariants.{Created};
+ghost use Rattle.std.specs.Prelude.{◌≡◌, Some, Decides};
+ghost use Rattle.std.specs.List.{slice_get};
+ghost use Rattle.access.specs.declared.entities.Entity.{Entity};
 ghost use Rattle.access.specs.declared.entities.Kind.TheVariants.{Account, Container, Role};
 ghost use Rattle.access.specs.declared.entities.Mode.TheVariants.{Parent};
 ghost use Rattle.runs.specs.Standing.{Is, IsObject, OneOwner, Principal, Proper, Stands};
 ghost use Rattle.session.specs.Models.{lists_of};
 
 use access::{Action, Entity, Kind, Member, Mode, Object, RightRecord};
-use catalogue::record_at;
+use catalogue::{kind_at, stands as stands_in};
 use session::Model;
 
 pub fn stands(model: &Model, n: u8) -> bool
     ensures { Decides result (Stands (lists_of model.now) n) }
 {
-    record_at(model.entities(), n as usize).is_some()
+    stands_in(model.entities(), n)
 }
 
 pub fn is_kind(model: &Model, n: u8, kind: Kind) -> bool
     ensures { Decides result (Is (lists_of model.now) kind n) }
 {
-    match record_at(model.entities(), n as usize) {
-        Some(e) => e.kind.number() == kind.number(),
-        None => false,
-    }
+    kind_at(model.entities(), n) == Some(kind)
+}
+
+// The entity of a number, or none past the end.
+fn entity_at(model: &Model, n: u8) -> Option<Entity>
+    ensures { result ≡ slice_get (lists_of model.now).entities n }
+{
+    model.entities().get(n as usize).copied()
 }
 
 // Whether a session can create in the entity.
-fn takes_created(e: Entity) -> bool
-    ensures { Decides result ((e.kind ≡ Container) × (e.mode ≡ Parent)) }
-{
-    matches!((e.kind, e.mode), (Kind::Container, Mode::Parent))
-}
-
 fn is_parent(model: &Model, n: u8) -> bool
-    ensures { Decides result (IsObject (lists_of model.now) (Created n)) }
+    ensures { Decides result ((e : Entity) × (slice_get (lists_of model.now).entities n ≡ Some e) × (e.kind ≡ Container) × (e.mode ≡ Parent)) }
 {
-    match record_at(model.entities(), n as usize) {
-        Some(e) => takes_created(e),
-        None => false,
-    }
+    entity_at(model, n).is_some_and(|e| e.kind == Kind::Container && e.mode == Mode::Parent)
 }
 
 pub fn is_object(model: &Model, x: Object) -> bool
@@ -51,22 +47,13 @@ pub fn is_object(model: &Model, x: Object) -> bool
     }
 }
 
-// Owners are compared as numbers.
-fn same_owner(a: Entity, b: Entity) -> bool
-    ensures { result ≡ (a.owner == b.owner) }
-{
-    a.owner == b.owner
-}
-
 // Whether the entities of two objects have one owner.
+#[tactic(auto, using(crate::proofs::Deciding::owner_told))]
 pub fn one_owner(model: &Model, x: Object, y: Object) -> bool
     ensures { Decides result (OneOwner (lists_of model.now) x y) }
 {
-    match (
-        record_at(model.entities(), x.place() as usize),
-        record_at(model.entities(), y.place() as usize),
-    ) {
-        (Some(a), Some(b)) => same_owner(a, b),
+    match (entity_at(model, x.place()), entity_at(model, y.place())) {
+        (Some(a), Some(b)) => a.owner == b.owner,
         _ => false,
     }
 }

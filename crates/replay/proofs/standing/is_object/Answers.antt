@@ -1,9 +1,13 @@
-use Rattle.session.specs.Models.{lists_of}
-use Rattle.replay.proofs.Deciding.{procedure_told, trigger_told}
+use Rattle.std.proofs.lemmas.Bool.Decides.{Decides-like}
+use Rattle.runs.specs.Standing.{a_procedure, a_trigger}
+use Rattle.replay.proofs.Deciding.{procedure_from, trigger_from, created_to, created_from}
 use Rattle.replay.proofs.standing.is_object.Goals as goal
 
 pub returns-in-Procedure : goal.returns-in-Procedure
-returns-in-Procedure c = procedure_told (lists_of c.args.model.now) _ c.args.x c.in-Procedure.n c.in-Procedure.is c.is_kind.ensures
+returns-in-Procedure c = rw c.in-Procedure.is (Decides-like _ a_procedure procedure_from c.is_kind.ensures)
 
 pub returns-in-Triggers : goal.returns-in-Triggers
-returns-in-Triggers c = trigger_told (lists_of c.args.model.now) _ c.args.x c.in-Triggers.n _ c.in-Triggers.is c.is_kind-in-Triggers.ensures
+returns-in-Triggers c = rw c.in-Triggers.is (Decides-like _ a_trigger trigger_from c.is_kind-in-Triggers.ensures)
+
+pub returns-in-Created : goal.returns-in-Created
+returns-in-Created c = rw c.in-Created.is (Decides-like _ created_to created_from c.is_parent.ensures)

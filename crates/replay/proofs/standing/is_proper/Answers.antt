@@ -1,12 +1,13 @@
-use Rattle.session.specs.Models.{lists_of}
-use Rattle.replay.proofs.Deciding.{call_told, grant_told, join_told}
+use Rattle.std.proofs.lemmas.Bool.Decides.{Decides-like}
+use Rattle.runs.specs.Standing.{a_call, a_grant, a_join}
+use Rattle.replay.proofs.Deciding.{call_from, grant_from, join_from}
 use Rattle.replay.proofs.standing.is_proper.Goals as goal
 
 pub returns-in-Call : goal.returns-in-Call
-returns-in-Call c = call_told (lists_of c.args.model.now) _ c.args.action c.in-Call.y c.in-Call.is c.is_object.ensures
+returns-in-Call c = rw c.in-Call.is (Decides-like _ a_call call_from c.is_object.ensures)
 
 pub returns-in-Grant : goal.returns-in-Grant
-returns-in-Grant c = grant_told (lists_of c.args.model.now) _ c.args.action c.in-Grant.g c.in-Grant.is c.grants_proper.ensures
+returns-in-Grant c = rw c.in-Grant.is (Decides-like _ (λ p. a_grant p.0 p.1) grant_from c.grants_proper.ensures)
 
 pub returns-in-Join : goal.returns-in-Join
-returns-in-Join c = join_told (lists_of c.args.model.now) _ c.args.action c.in-Join.m c.in-Join.is c.joins_proper.ensures
+returns-in-Join c = rw c.in-Join.is (Decides-like _ (λ p. a_join p.0 p.1) join_from c.joins_proper.ensures)

@@ -1,0 +1,161 @@
+// A run as far as it has come, and what it allows next.
+ghost use Rattle.std.specs.Prelude.{◌≡◌, ℕ, ◌+◌, ◌<◌, true, Decides};
+ghost use Rattle.access.specs.Lists.{◌∈◌, Lists};
+ghost use Rattle.catalogue.specs.Sound.{Sound};
+ghost use Rattle.runs.specs.Rights.{Holds};
+ghost use Rattle.runs.specs.Runs.{Allowed, after};
+ghost use Rattle.runs.specs.States.{State, start};
+ghost use Rattle.session.specs.Models.{lists_of};
+ghost use Rattle.session.specs.Reached.{Filled};
+ghost use Rattle.session.specs.Rowed.{Rowed};
+ghost use Rattle.replay.specs.Situations.{state_in};
+ghost use Rattle.replay.specs.Good.{Kept, SameRecords};
+
+use crate::courses::opening::doer;
+use crate::fitting::{Actor, tells};
+use access::{Action, Line, Right};
+use runs::Step;
+use session::{Model, Rows, RunState};
+
+mod opening;
+
+// The rows of an account.
+#[derive(Clone, Copy)]
+pub struct Seen {
+    account: u8,
+    rows: Rows,
+}
+
+// A run over a loaded catalogue, and the rows that were asked for last, while they tell of its state.
+#[derive(Drop)]
+pub struct Course<'a> {
+    model: &'a Model,
+    state: &'a mut RunState,
+    seen: Option<Seen>,
+}
+
+impl<'a> std::marker::Model for Course<'a> {
+    ghost use Rattle.session.specs.Models.{lists_of};
+    ghost use Rattle.replay.specs.Situations.{Situation};
+
+    ghost Value = { Situation };
+
+    ghost view = { λ c. record { lists = lists_of c.model.now; came = c.state.now } };
+
+    ghost use Rattle.session.specs.Reached.{state_of};
+    ghost use Rattle.replay.specs.Good.{Keeps};
+
+    ghost invariant = { λ c. Keeps (lists_of c.model.now) (state_of (lists_of c.model.now) c.state.now) c.seen };
+}
+
+// Whether a step adds no record, so that rows tell of the state after it too.
+fn keeps_records(step: Step) -> bool
+    ensures { result ≡ true → SameRecords step }
+{
+    matches!(
+        step,
+        Step::Switch { .. }
+            | Step::Plant { .. }
+            | Step::Call { .. }
+            | Step::Follow {
+                line: Line {
+                    action: Action::Call(_),
+                    ..
+                },
+                ..
+            }
+    )
+}
+
+// The rows that tell of the state after a step too.
+#[tactic(auto, using(crate::proofs::Playing::kept_stays))]
+fn kept_over(seen: Option<Seen>, step: Step) -> Option<Seen>
+    ensures { (L : Lists) (S : State) → Kept L S seen → Kept L (after S step) result }
+{
+    if keeps_records(step) { seen } else { None }
+}
+
+impl<'a> Course<'a> {
+    // The run in which an account opens a session.
+    pub fn open(model: &'a Model, state: &'a mut RunState, account: u8) -> Self
+        requires { account < 96 }
+        ensures lists { result.lists ≡ lists_of model.now }
+        ensures state { state_in result ≡ start (lists_of model.now) account }
+        ensures few { Filled result.came 0 }
+    {
+        state.open(account);
+        Course {
+            model,
+            state,
+            seen: None,
+        }
+    }
+
+    // The rows of an account.
+    fn rows(&mut self, account: u8) -> Rows
+        requires small { account < 96 }
+        ensures same { self.new ≡ self.old }
+        ensures sound { Sound self.old.lists }
+        ensures rows { Rowed self.old.lists (state_in self.old) account result.holds.sets result.grants.sets }
+    {
+        if let Some(seen) = self.seen
+            && seen.account == account
+        {
+            return seen.rows;
+        }
+        let state = &*self.state;
+        let rows = self.model.rows(&state.grants, &state.joins, account);
+        self.seen = Some(Seen { account, rows });
+        rows
+    }
+
+    // Whether an account holds a right.
+    pub fn holds(&mut self, account: u8, n: u8, right: Right) -> bool
+        requires small { account < 96 }
+        ensures same { self.new ≡ self.old }
+        ensures told { Decides result (Holds self.old.lists (state_in self.old) account n right) }
+    {
+        tells(&self.rows(account).holds, n, right)
+    }
+
+    // Whether some account acted as holds a right.
+    pub fn some_holds(&mut self, n: u8, right: Right) -> bool
+        ensures { Decides result ((v : ℕ) × (v ∈ (state_in self.old).acted) × Holds self.old.lists (state_in self.old) v n right) }
+    {
+        // The invariant of a run, which this opens, says that whoever is acted as has a number below 96.
+        let _ = &self.model;
+        // Kept: tried with `any` and with `find`, and the proof did not close, since each question changes the rows that are kept.
+        for v in 0..96u8 {
+            if self.acts(v) && self.holds(v, n, right) {
+                return true;
+            }
+        }
+        false
+    }
+
+    // Whether a step is allowed.
+    pub fn allows(&mut self, step: Step) -> bool
+        ensures same { self.new ≡ self.old }
+        ensures told { Decides result (Allowed self.old.lists (state_in self.old) step) }
+    {
+        self.opens(step)
+            && Actor {
+                model: self.model,
+                rows: self.rows(doer(step)),
+            }
+            .fits(step)
+    }
+
+    // Adds a step.
+    #[tactic(auto, using(crate::proofs::Smalls::after_small))]
+    pub fn add(&mut self, step: Step)
+        requires allowed { Allowed self.old.lists (state_in self.old) step }
+        requires room { Filled self.old.came 4095 }
+        ensures lists { self.new.lists ≡ self.old.lists }
+        ensures state { state_in self.new ≡ after (state_in self.old) step }
+        ensures few { (n : ℕ) → Filled self.old.came n → Filled self.new.came (n + 1) }
+    {
+        self.seen = kept_over(self.seen, step);
+        self.state.commit(step);
+    }
+}
