@@ -1,738 +1,133 @@
 // Calls with what each must return.
 use access::ObjectNumbers;
+use access::Refusal::{self, Circular, NotGiven, NotListed, WrongKind};
 use book::Call;
+use examples::{declare, grant, join, line, link, procedure, triggers};
 
-pub enum Expected {
-    Number(usize),
-    Declined(u8),
-}
-
-pub struct Case {
-    pub call: Call,
-    pub expected: Expected,
-}
+pub type Case = (Call, Result<usize, Refusal>);
 
 // Who may own what, and where it may stand.
-pub const DECLARATIONS: [Case; 19] = [
-    Case {
-        call: Call::Declare {
-            kind: 3,
-            parent: 0,
-            owner: 3,
-            mode: 0,
-        },
-        expected: Expected::Number(3),
-    },
-    Case {
-        call: Call::Declare {
-            kind: 5,
-            parent: 0,
-            owner: 4,
-            mode: 0,
-        },
-        expected: Expected::Declined(1),
-    },
-    Case {
-        call: Call::Declare {
-            kind: 3,
-            parent: 0,
-            owner: 4,
-            mode: 1,
-        },
-        expected: Expected::Declined(1),
-    },
-    Case {
-        call: Call::Declare {
-            kind: 0,
-            parent: 0,
-            owner: 2,
-            mode: 2,
-        },
-        expected: Expected::Declined(1),
-    },
-    Case {
-        call: Call::Declare {
-            kind: 0,
-            parent: 9,
-            owner: 2,
-            mode: 0,
-        },
-        expected: Expected::Declined(1),
-    },
-    Case {
-        call: Call::Declare {
-            kind: 4,
-            parent: 0,
-            owner: 4,
-            mode: 0,
-        },
-        expected: Expected::Declined(1),
-    },
-    Case {
-        call: Call::Declare {
-            kind: 0,
-            parent: 3,
-            owner: 2,
-            mode: 0,
-        },
-        expected: Expected::Declined(2),
-    },
-    Case {
-        call: Call::Declare {
-            kind: 4,
-            parent: 0,
-            owner: 0,
-            mode: 0,
-        },
-        expected: Expected::Declined(2),
-    },
-    Case {
-        call: Call::Declare {
-            kind: 3,
-            parent: 0,
-            owner: 0,
-            mode: 0,
-        },
-        expected: Expected::Declined(2),
-    },
-    Case {
-        call: Call::Declare {
-            kind: 3,
-            parent: 0,
-            owner: 3,
-            mode: 0,
-        },
-        expected: Expected::Declined(3),
-    },
-    Case {
-        call: Call::Declare {
-            kind: 1,
-            parent: 0,
-            owner: 2,
-            mode: 0,
-        },
-        expected: Expected::Declined(3),
-    },
-    Case {
-        call: Call::Declare {
-            kind: 0,
-            parent: 0,
-            owner: 3,
-            mode: 1,
-        },
-        expected: Expected::Number(4),
-    },
-    Case {
-        call: Call::Declare {
-            kind: 0,
-            parent: 4,
-            owner: 2,
-            mode: 0,
-        },
-        expected: Expected::Declined(3),
-    },
-    Case {
-        call: Call::Declare {
-            kind: 0,
-            parent: 4,
-            owner: 3,
-            mode: 0,
-        },
-        expected: Expected::Number(5),
-    },
-    Case {
-        call: Call::Declare {
-            kind: 1,
-            parent: 4,
-            owner: 2,
-            mode: 0,
-        },
-        expected: Expected::Declined(3),
-    },
-    Case {
-        call: Call::Declare {
-            kind: 1,
-            parent: 4,
-            owner: 3,
-            mode: 0,
-        },
-        expected: Expected::Number(6),
-    },
-    Case {
-        call: Call::Declare {
-            kind: 2,
-            parent: 5,
-            owner: 3,
-            mode: 0,
-        },
-        expected: Expected::Declined(3),
-    },
-    Case {
-        call: Call::Declare {
-            kind: 4,
-            parent: 4,
-            owner: 3,
-            mode: 0,
-        },
-        expected: Expected::Declined(3),
-    },
-    Case {
-        call: Call::Declare {
-            kind: 4,
-            parent: 0,
-            owner: 3,
-            mode: 0,
-        },
-        expected: Expected::Number(7),
-    },
-];
+pub fn declarations() -> [Case; 19] {
+    [
+        (declare(3, 0, 3, 0), Ok(3)),
+        (declare(5, 0, 4, 0), Err(NotListed)),
+        (declare(3, 0, 4, 1), Err(NotListed)),
+        (declare(0, 0, 2, 2), Err(NotListed)),
+        (declare(0, 9, 2, 0), Err(NotListed)),
+        (declare(4, 0, 4, 0), Err(NotListed)),
+        (declare(0, 3, 2, 0), Err(WrongKind)),
+        (declare(4, 0, 0, 0), Err(WrongKind)),
+        (declare(3, 0, 0, 0), Err(WrongKind)),
+        (declare(3, 0, 3, 0), Err(NotGiven)),
+        (declare(1, 0, 2, 0), Err(NotGiven)),
+        (declare(0, 0, 3, 1), Ok(4)),
+        (declare(0, 4, 2, 0), Err(NotGiven)),
+        (declare(0, 4, 3, 0), Ok(5)),
+        (declare(1, 4, 2, 0), Err(NotGiven)),
+        (declare(1, 4, 3, 0), Ok(6)),
+        (declare(2, 5, 3, 0), Err(NotGiven)),
+        (declare(4, 4, 3, 0), Err(NotGiven)),
+        (declare(4, 0, 3, 0), Ok(7)),
+    ]
+}
 
 // Links of roles 3, 4 and 5.
-pub const LINKS: [Case; 18] = [
-    Case {
-        call: Call::Declare {
-            kind: 4,
-            parent: 0,
-            owner: 2,
-            mode: 0,
-        },
-        expected: Expected::Number(3),
-    },
-    Case {
-        call: Call::Declare {
-            kind: 4,
-            parent: 0,
-            owner: 2,
-            mode: 0,
-        },
-        expected: Expected::Number(4),
-    },
-    Case {
-        call: Call::Declare {
-            kind: 4,
-            parent: 0,
-            owner: 2,
-            mode: 0,
-        },
-        expected: Expected::Number(5),
-    },
-    Case {
-        call: Call::Declare {
-            kind: 3,
-            parent: 0,
-            owner: 6,
-            mode: 0,
-        },
-        expected: Expected::Number(6),
-    },
-    Case {
-        call: Call::Link { lower: 9, upper: 3 },
-        expected: Expected::Declined(1),
-    },
-    Case {
-        call: Call::Link { lower: 3, upper: 9 },
-        expected: Expected::Declined(1),
-    },
-    Case {
-        call: Call::Link { lower: 6, upper: 3 },
-        expected: Expected::Declined(2),
-    },
-    Case {
-        call: Call::Link { lower: 3, upper: 0 },
-        expected: Expected::Declined(2),
-    },
-    Case {
-        call: Call::Link { lower: 3, upper: 3 },
-        expected: Expected::Declined(4),
-    },
-    Case {
-        call: Call::Link { lower: 2, upper: 1 },
-        expected: Expected::Declined(4),
-    },
-    Case {
-        call: Call::Link { lower: 3, upper: 4 },
-        expected: Expected::Number(0),
-    },
-    Case {
-        call: Call::Link { lower: 3, upper: 4 },
-        expected: Expected::Number(0),
-    },
-    Case {
-        call: Call::Link { lower: 4, upper: 3 },
-        expected: Expected::Declined(4),
-    },
-    Case {
-        call: Call::Link { lower: 4, upper: 5 },
-        expected: Expected::Number(1),
-    },
-    Case {
-        call: Call::Link { lower: 5, upper: 3 },
-        expected: Expected::Declined(4),
-    },
-    Case {
-        call: Call::Link { lower: 3, upper: 5 },
-        expected: Expected::Number(2),
-    },
-    Case {
-        call: Call::Link { lower: 3, upper: 2 },
-        expected: Expected::Number(3),
-    },
-    Case {
-        call: Call::Link { lower: 2, upper: 3 },
-        expected: Expected::Declined(4),
-    },
-];
+pub fn links() -> [Case; 18] {
+    [
+        (declare(4, 0, 2, 0), Ok(3)),
+        (declare(4, 0, 2, 0), Ok(4)),
+        (declare(4, 0, 2, 0), Ok(5)),
+        (declare(3, 0, 6, 0), Ok(6)),
+        (link(9, 3), Err(NotListed)),
+        (link(3, 9), Err(NotListed)),
+        (link(6, 3), Err(WrongKind)),
+        (link(3, 0), Err(WrongKind)),
+        (link(3, 3), Err(Circular)),
+        (link(2, 1), Err(Circular)),
+        (link(3, 4), Ok(0)),
+        (link(3, 4), Ok(0)),
+        (link(4, 3), Err(Circular)),
+        (link(4, 5), Ok(1)),
+        (link(5, 3), Err(Circular)),
+        (link(3, 5), Ok(2)),
+        (link(3, 2), Ok(3)),
+        (link(2, 3), Err(Circular)),
+    ]
+}
 
 // Rights of account 3 and role 1.
-pub const RIGHTS: [Case; 12] = [
-    Case {
-        call: Call::Declare {
-            kind: 3,
-            parent: 0,
-            owner: 3,
-            mode: 0,
-        },
-        expected: Expected::Number(3),
-    },
-    Case {
-        call: Call::Grant {
-            principal: 3,
-            entity: 0,
-            right: 7,
-            option: 0,
-        },
-        expected: Expected::Declined(1),
-    },
-    Case {
-        call: Call::Grant {
-            principal: 3,
-            entity: 0,
-            right: 0,
-            option: 2,
-        },
-        expected: Expected::Declined(1),
-    },
-    Case {
-        call: Call::Grant {
-            principal: 4,
-            entity: 0,
-            right: 0,
-            option: 0,
-        },
-        expected: Expected::Declined(1),
-    },
-    Case {
-        call: Call::Grant {
-            principal: 3,
-            entity: 4,
-            right: 0,
-            option: 0,
-        },
-        expected: Expected::Declined(1),
-    },
-    Case {
-        call: Call::Grant {
-            principal: 0,
-            entity: 3,
-            right: 0,
-            option: 0,
-        },
-        expected: Expected::Declined(2),
-    },
-    Case {
-        call: Call::Grant {
-            principal: 3,
-            entity: 0,
-            right: 0,
-            option: 0,
-        },
-        expected: Expected::Number(0),
-    },
-    Case {
-        call: Call::Grant {
-            principal: 3,
-            entity: 0,
-            right: 1,
-            option: 0,
-        },
-        expected: Expected::Number(1),
-    },
-    Case {
-        call: Call::Grant {
-            principal: 1,
-            entity: 0,
-            right: 0,
-            option: 0,
-        },
-        expected: Expected::Number(2),
-    },
-    Case {
-        call: Call::Grant {
-            principal: 3,
-            entity: 0,
-            right: 0,
-            option: 1,
-        },
-        expected: Expected::Number(0),
-    },
-    Case {
-        call: Call::Grant {
-            principal: 3,
-            entity: 0,
-            right: 0,
-            option: 0,
-        },
-        expected: Expected::Number(0),
-    },
-    Case {
-        call: Call::Grant {
-            principal: 3,
-            entity: 3,
-            right: 0,
-            option: 0,
-        },
-        expected: Expected::Number(3),
-    },
-];
+pub fn rights() -> [Case; 12] {
+    [
+        (declare(3, 0, 3, 0), Ok(3)),
+        (grant(3, 0, 7, 0), Err(NotListed)),
+        (grant(3, 0, 0, 2), Err(NotListed)),
+        (grant(4, 0, 0, 0), Err(NotListed)),
+        (grant(3, 4, 0, 0), Err(NotListed)),
+        (grant(0, 3, 0, 0), Err(WrongKind)),
+        (grant(3, 0, 0, 0), Ok(0)),
+        (grant(3, 0, 1, 0), Ok(1)),
+        (grant(1, 0, 0, 0), Ok(2)),
+        (grant(3, 0, 0, 1), Ok(0)),
+        (grant(3, 0, 0, 0), Ok(0)),
+        (grant(3, 3, 0, 0), Ok(3)),
+    ]
+}
 
 // Members of roles.
-pub const MEMBERS: [Case; 8] = [
-    Case {
-        call: Call::Declare {
-            kind: 3,
-            parent: 0,
-            owner: 3,
-            mode: 0,
-        },
-        expected: Expected::Number(3),
-    },
-    Case {
-        call: Call::Join {
-            account: 4,
-            role: 1,
-        },
-        expected: Expected::Declined(1),
-    },
-    Case {
-        call: Call::Join {
-            account: 3,
-            role: 4,
-        },
-        expected: Expected::Declined(1),
-    },
-    Case {
-        call: Call::Join {
-            account: 1,
-            role: 1,
-        },
-        expected: Expected::Declined(2),
-    },
-    Case {
-        call: Call::Join {
-            account: 3,
-            role: 3,
-        },
-        expected: Expected::Declined(2),
-    },
-    Case {
-        call: Call::Join {
-            account: 3,
-            role: 2,
-        },
-        expected: Expected::Number(0),
-    },
-    Case {
-        call: Call::Join {
-            account: 3,
-            role: 1,
-        },
-        expected: Expected::Number(1),
-    },
-    Case {
-        call: Call::Join {
-            account: 3,
-            role: 2,
-        },
-        expected: Expected::Number(0),
-    },
-];
+pub fn members() -> [Case; 8] {
+    [
+        (declare(3, 0, 3, 0), Ok(3)),
+        (join(4, 1), Err(NotListed)),
+        (join(3, 4), Err(NotListed)),
+        (join(1, 1), Err(WrongKind)),
+        (join(3, 3), Err(WrongKind)),
+        (join(3, 2), Ok(0)),
+        (join(3, 1), Ok(1)),
+        (join(3, 2), Ok(0)),
+    ]
+}
 
 // Lines of procedure 6 and of the triggers of table 5.
-pub const LINES: [Case; 19] = [
-    Case {
-        call: Call::Declare {
-            kind: 3,
-            parent: 0,
-            owner: 3,
-            mode: 0,
-        },
-        expected: Expected::Number(3),
-    },
-    Case {
-        call: Call::Declare {
-            kind: 0,
-            parent: 0,
-            owner: 3,
-            mode: 1,
-        },
-        expected: Expected::Number(4),
-    },
-    Case {
-        call: Call::Declare {
-            kind: 1,
-            parent: 4,
-            owner: 3,
-            mode: 0,
-        },
-        expected: Expected::Number(5),
-    },
-    Case {
-        call: Call::Declare {
-            kind: 2,
-            parent: 4,
-            owner: 3,
-            mode: 0,
-        },
-        expected: Expected::Number(6),
-    },
-    Case {
-        call: Call::Line {
-            object: ObjectNumbers {
-                kind: 2,
-                entity: 6,
-                right: 0,
-            },
-            runner: 255,
-            called: ObjectNumbers {
-                kind: 0,
-                entity: 6,
-                right: 0,
-            },
-        },
-        expected: Expected::Declined(1),
-    },
-    Case {
-        call: Call::Line {
-            object: ObjectNumbers {
-                kind: 0,
-                entity: 6,
-                right: 1,
-            },
-            runner: 255,
-            called: ObjectNumbers {
-                kind: 0,
-                entity: 6,
-                right: 0,
-            },
-        },
-        expected: Expected::Declined(1),
-    },
-    Case {
-        call: Call::Line {
-            object: ObjectNumbers {
-                kind: 1,
-                entity: 5,
-                right: 0,
-            },
-            runner: 255,
-            called: ObjectNumbers {
-                kind: 0,
-                entity: 6,
-                right: 0,
-            },
-        },
-        expected: Expected::Declined(1),
-    },
-    Case {
-        call: Call::Line {
-            object: ObjectNumbers {
-                kind: 1,
-                entity: 5,
-                right: 4,
-            },
-            runner: 255,
-            called: ObjectNumbers {
-                kind: 0,
-                entity: 6,
-                right: 0,
-            },
-        },
-        expected: Expected::Declined(1),
-    },
-    Case {
-        call: Call::Line {
-            object: ObjectNumbers {
-                kind: 0,
-                entity: 9,
-                right: 0,
-            },
-            runner: 255,
-            called: ObjectNumbers {
-                kind: 0,
-                entity: 6,
-                right: 0,
-            },
-        },
-        expected: Expected::Declined(1),
-    },
-    Case {
-        call: Call::Line {
-            object: ObjectNumbers {
-                kind: 0,
-                entity: 6,
-                right: 0,
-            },
-            runner: 9,
-            called: ObjectNumbers {
-                kind: 0,
-                entity: 6,
-                right: 0,
-            },
-        },
-        expected: Expected::Declined(1),
-    },
-    Case {
-        call: Call::Line {
-            object: ObjectNumbers {
-                kind: 0,
-                entity: 6,
-                right: 0,
-            },
-            runner: 255,
-            called: ObjectNumbers {
-                kind: 0,
-                entity: 9,
-                right: 0,
-            },
-        },
-        expected: Expected::Declined(1),
-    },
-    Case {
-        call: Call::Line {
-            object: ObjectNumbers {
-                kind: 0,
-                entity: 5,
-                right: 0,
-            },
-            runner: 255,
-            called: ObjectNumbers {
-                kind: 0,
-                entity: 6,
-                right: 0,
-            },
-        },
-        expected: Expected::Declined(2),
-    },
-    Case {
-        call: Call::Line {
-            object: ObjectNumbers {
-                kind: 0,
-                entity: 6,
-                right: 0,
-            },
-            runner: 1,
-            called: ObjectNumbers {
-                kind: 0,
-                entity: 6,
-                right: 0,
-            },
-        },
-        expected: Expected::Declined(2),
-    },
-    Case {
-        call: Call::Line {
-            object: ObjectNumbers {
-                kind: 0,
-                entity: 6,
-                right: 0,
-            },
-            runner: 255,
-            called: ObjectNumbers {
-                kind: 1,
-                entity: 6,
-                right: 1,
-            },
-        },
-        expected: Expected::Declined(2),
-    },
-    Case {
-        call: Call::Line {
-            object: ObjectNumbers {
-                kind: 0,
-                entity: 6,
-                right: 0,
-            },
-            runner: 255,
-            called: ObjectNumbers {
-                kind: 1,
-                entity: 5,
-                right: 1,
-            },
-        },
-        expected: Expected::Number(0),
-    },
-    Case {
-        call: Call::Line {
-            object: ObjectNumbers {
-                kind: 1,
-                entity: 5,
-                right: 1,
-            },
-            runner: 3,
-            called: ObjectNumbers {
-                kind: 0,
-                entity: 6,
-                right: 0,
-            },
-        },
-        expected: Expected::Number(1),
-    },
-    Case {
-        call: Call::Line {
-            object: ObjectNumbers {
-                kind: 0,
-                entity: 6,
-                right: 0,
-            },
-            runner: 3,
-            called: ObjectNumbers {
-                kind: 1,
-                entity: 5,
-                right: 1,
-            },
-        },
-        expected: Expected::Number(2),
-    },
-    Case {
-        call: Call::Line {
-            object: ObjectNumbers {
-                kind: 0,
-                entity: 6,
-                right: 0,
-            },
-            runner: 255,
-            called: ObjectNumbers {
-                kind: 1,
-                entity: 5,
-                right: 1,
-            },
-        },
-        expected: Expected::Number(0),
-    },
-    Case {
-        call: Call::Line {
-            object: ObjectNumbers {
-                kind: 0,
-                entity: 6,
-                right: 0,
-            },
-            runner: 255,
-            called: ObjectNumbers {
-                kind: 1,
-                entity: 5,
-                right: 2,
-            },
-        },
-        expected: Expected::Number(3),
-    },
-];
+pub fn lines() -> [Case; 19] {
+    [
+        (declare(3, 0, 3, 0), Ok(3)),
+        (declare(0, 0, 3, 1), Ok(4)),
+        (declare(1, 4, 3, 0), Ok(5)),
+        (declare(2, 4, 3, 0), Ok(6)),
+        (
+            line(
+                ObjectNumbers {
+                    kind: 2,
+                    ..procedure(6)
+                },
+                255,
+                procedure(6),
+            ),
+            Err(NotListed),
+        ),
+        (
+            line(
+                ObjectNumbers {
+                    right: 1,
+                    ..procedure(6)
+                },
+                255,
+                procedure(6),
+            ),
+            Err(NotListed),
+        ),
+        (line(triggers(5, 0), 255, procedure(6)), Err(NotListed)),
+        (line(triggers(5, 4), 255, procedure(6)), Err(NotListed)),
+        (line(procedure(9), 255, procedure(6)), Err(NotListed)),
+        (line(procedure(6), 9, procedure(6)), Err(NotListed)),
+        (line(procedure(6), 255, procedure(9)), Err(NotListed)),
+        (line(procedure(5), 255, procedure(6)), Err(WrongKind)),
+        (line(procedure(6), 1, procedure(6)), Err(WrongKind)),
+        (line(procedure(6), 255, triggers(6, 1)), Err(WrongKind)),
+        (line(procedure(6), 255, triggers(5, 1)), Ok(0)),
+        (line(triggers(5, 1), 3, procedure(6)), Ok(1)),
+        (line(procedure(6), 3, triggers(5, 1)), Ok(2)),
+        (line(procedure(6), 255, triggers(5, 1)), Ok(0)),
+        (line(procedure(6), 255, triggers(5, 2)), Ok(3)),
+    ]
+}

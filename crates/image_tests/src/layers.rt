@@ -1,6 +1,6 @@
 // A layer stands over the reader of an image as over any other catalogue.
 use crate::samples::PAIRS;
-use access::Refusal;
+use access::{Refusal, RightNumbers};
 use book::Book;
 use catalogue::{Catalogue, ListName};
 use image::read;
@@ -10,15 +10,22 @@ use std::test::Fail;
 #[test]
 fn proposals_stand_after_the_records_of_an_image(rt: HostRuntime) -> Result<(), Fail> {
     let mut scratch = Book::new(rt.alloc())?;
-    let Ok(reader) = read(&mut scratch, &PAIRS) else {
-        return Err(Fail::new("the image does not read"));
+    let mut layer = Layer::new(rt.alloc(), read(&mut scratch, &PAIRS)?)?;
+    let listed = RightNumbers {
+        principal: 4,
+        entity: 3,
+        right: 6,
+        option: 1,
     };
-    let mut layer = Layer::new(rt.alloc(), reader)?;
-    assert!(rt; matches!(layer.propose_right(4, 3, 6, 1), Ok(0)));
-    assert!(rt; matches!(layer.propose_right(9, 3, 6, 1), Err(Refusal::NotListed)));
+    let unlisted = RightNumbers {
+        principal: 9,
+        ..listed
+    };
+    assert_eq!(rt; layer.propose_right(listed), Ok(0));
+    assert_eq!(rt; layer.propose_right(unlisted), Err(Refusal::NotListed));
     assert!(rt; layer.count(ListName::Rights) == 2);
-    assert!(rt; matches!(layer.right_at(0), Some(r) if r.principal == 3));
-    assert!(rt; matches!(layer.right_at(1), Some(r) if r.principal == 4));
+    assert!(rt; layer.right_at(0).is_some_and(|r| r.principal == 3));
+    assert!(rt; layer.right_at(1).is_some_and(|r| r.principal == 4));
     assert!(rt; layer.withdraw());
     assert!(rt; layer.count(ListName::Rights) == 1);
     Ok(())

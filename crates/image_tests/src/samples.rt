@@ -18,133 +18,31 @@ pub const MIXED: [u8; 82] = [
     0, 7, 0, 255, 1, 6, 1, 1, 6, 3, 3, 0, 7, 0, // lines
 ];
 
-// A byte put at a place of the second image, and the fault that it then has.
-pub struct Damage {
-    pub place: usize,
-    pub byte: u8,
-    pub part: u8,
-    pub record: u16,
-}
-
-pub const DAMAGES: [Damage; 19] = [
+// A place of the second image, a byte that is put there, and the part and the record of the fault that it then has.
+pub const DAMAGES: [(usize, u8, u8, u16); 19] = [
     // contents: a start of each entry, and counts
-    Damage {
-        place: 1,
-        byte: 21,
-        part: 0,
-        record: 0,
-    },
-    Damage {
-        place: 0,
-        byte: 1,
-        part: 0,
-        record: 0,
-    },
-    Damage {
-        place: 3,
-        byte: 2,
-        part: 0,
-        record: 0,
-    },
-    Damage {
-        place: 3,
-        byte: 97,
-        part: 0,
-        record: 0,
-    },
-    Damage {
-        place: 5,
-        byte: 51,
-        part: 0,
-        record: 1,
-    },
-    Damage {
-        place: 7,
-        byte: 65,
-        part: 0,
-        record: 1,
-    },
-    Damage {
-        place: 9,
-        byte: 0,
-        part: 0,
-        record: 2,
-    },
-    Damage {
-        place: 14,
-        byte: 1,
-        part: 0,
-        record: 3,
-    },
-    Damage {
-        place: 18,
-        byte: 2,
-        part: 0,
-        record: 4,
-    },
-    Damage {
-        place: 19,
-        byte: 1,
-        part: 0,
-        record: 5,
-    },
+    (1, 21, 0, 0),
+    (0, 1, 0, 0),
+    (3, 2, 0, 0),
+    (3, 97, 0, 0),
+    (5, 51, 0, 1),
+    (7, 65, 0, 1),
+    (9, 0, 0, 2),
+    (14, 1, 0, 3),
+    (18, 2, 0, 4),
+    (19, 1, 0, 5),
     // entities: those of a new book, and one that is declined
-    Damage {
-        place: 20,
-        byte: 1,
-        part: 1,
-        record: 0,
-    },
-    Damage {
-        place: 31,
-        byte: 1,
-        part: 1,
-        record: 2,
-    },
-    Damage {
-        place: 34,
-        byte: 2,
-        part: 1,
-        record: 3,
-    },
+    (20, 1, 1, 0),
+    (31, 1, 1, 2),
+    (34, 2, 1, 3),
     // links that close a circle
-    Damage {
-        place: 54,
-        byte: 2,
-        part: 2,
-        record: 1,
-    },
-    Damage {
-        place: 53,
-        byte: 1,
-        part: 2,
-        record: 0,
-    },
+    (54, 2, 2, 1),
+    (53, 1, 2, 0),
     // a right that is not listed
-    Damage {
-        place: 62,
-        byte: 7,
-        part: 3,
-        record: 1,
-    },
+    (62, 7, 3, 1),
     // a member that stands
-    Damage {
-        place: 67,
-        byte: 4,
-        part: 4,
-        record: 1,
-    },
+    (67, 4, 4, 1),
     // lines
-    Damage {
-        place: 70,
-        byte: 1,
-        part: 5,
-        record: 0,
-    },
-    Damage {
-        place: 78,
-        byte: 4,
-        part: 5,
-        record: 1,
-    },
+    (70, 1, 5, 0),
+    (78, 4, 5, 1),
 ];

@@ -1,137 +1,114 @@
 // What books write reads again, and each damage is found where it is first.
 use crate::samples::{DAMAGES, MIXED, PAIRS};
-use access::{ObjectNumbers, Refusal};
-use book::Book;
+use access::{Member, Refusal};
+use book::{Book, Call, apply};
 use catalogue::{Catalogue, ListName};
+use examples::{declare, grant, join, line, link, procedure, triggers};
 use image::{read, write};
 use std::process::Abort;
 use std::test::Fail;
 
-const PROCEDURE_7: ObjectNumbers = ObjectNumbers {
-    kind: 0,
-    entity: 7,
-    right: 0,
-};
-
-fn triggers_of_6(right: u8) -> ObjectNumbers {
-    ObjectNumbers {
-        kind: 1,
-        entity: 6,
-        right,
-    }
-}
-
-fn same_bytes(a: &[u8], b: &[u8]) -> bool {
-    if a.len() != b.len() {
-        return false;
-    }
-    for (x, y) in a.iter().zip(b.iter()) {
-        if *x != *y {
-            return false;
-        }
-    }
-    true
-}
-
-fn pairs(rt: &HostRuntime) -> Result<Book, Fail> {
+fn book_of(rt: &impl AllocGlobal, calls: &[Call]) -> Result<Book, Fail> {
     let mut book = Book::new(rt.alloc())?;
-    let _ = book.declare(3, 0, 3, 0);
-    let _ = book.declare(3, 0, 4, 0);
-    let _ = book.grant(3, 4, 6, 0);
+    for call in calls {
+        apply(&mut book, *call)?;
+    }
     Ok(book)
 }
 
-fn mixed(rt: &HostRuntime) -> Result<Book, Fail> {
-    let mut book = Book::new(rt.alloc())?;
-    let _ = book.declare(3, 0, 3, 0);
-    let _ = book.declare(4, 0, 3, 0);
-    let _ = book.declare(0, 0, 3, 1);
-    let _ = book.declare(1, 5, 3, 0);
-    let _ = book.declare(2, 5, 3, 0);
-    let _ = book.link(1, 4);
-    let _ = book.link(4, 2);
-    let _ = book.grant(4, 6, 1, 1);
-    let _ = book.grant(3, 7, 5, 0);
-    let _ = book.join(3, 4);
-    let _ = book.join(3, 1);
-    let _ = book.line(PROCEDURE_7, 255, triggers_of_6(1));
-    let _ = book.line(triggers_of_6(3), 3, PROCEDURE_7);
-    Ok(book)
+fn pairs(rt: &impl AllocGlobal) -> Result<Book, Fail> {
+    book_of(
+        rt,
+        &[declare(3, 0, 3, 0), declare(3, 0, 4, 0), grant(3, 4, 6, 0)],
+    )
+}
+
+fn mixed(rt: &impl AllocGlobal) -> Result<Book, Fail> {
+    book_of(
+        rt,
+        &[
+            declare(3, 0, 3, 0),
+            declare(4, 0, 3, 0),
+            declare(0, 0, 3, 1),
+            declare(1, 5, 3, 0),
+            declare(2, 5, 3, 0),
+            link(1, 4),
+            link(4, 2),
+            grant(4, 6, 1, 1),
+            grant(3, 7, 5, 0),
+            join(3, 4),
+            join(3, 1),
+            line(procedure(7), 255, triggers(6, 1)),
+            line(triggers(6, 3), 3, procedure(7)),
+        ],
+    )
 }
 
 // A book writes these bytes and no others, and leaves a room that is too small as it is.
-fn writes(rt: &impl Abort, book: &Book, bytes: &[u8], small: &mut [u8]) -> Result<(), Fail> {
-    assert!(rt; write(book, small).is_err());
-    for byte in small.iter() {
-        assert!(rt; *byte == 7);
-    }
-    let mut room = [7u8; 100];
+fn writes(rt: &impl Abort, book: &Book, bytes: &[u8]) {
     let n = bytes.len();
-    assert!(rt; n < 100);
-    match write(book, &mut room) {
-        Ok(len) => assert!(rt; len == n),
-        Err(_) => return Err(Fail::new("no room")),
-    }
-    assert!(rt; same_bytes(&room[0..n], bytes));
+    assert!(rt; 0 < n && n < 100);
+    let mut room = [7u8; 100];
+    assert!(rt; write(book, &mut room[..n - 1]).is_err());
+    assert!(rt; room == [7u8; 100]);
+    assert_eq!(rt; write(book, &mut room), Ok(n));
+    assert!(rt; room.starts_with(bytes));
     assert!(rt; room[n] == 7);
-    Ok(())
 }
 
 #[test]
 fn the_two_accounts_are_written(rt: HostRuntime) -> Result<(), Fail> {
-    let book = pairs(&rt)?;
-    writes(&rt, &book, &PAIRS, &mut [7u8; 43])
+    writes(&rt, &pairs(&rt)?, &PAIRS);
+    Ok(())
 }
 
 #[test]
 fn each_kind_of_record_is_written(rt: HostRuntime) -> Result<(), Fail> {
-    let book = mixed(&rt)?;
-    writes(&rt, &book, &MIXED, &mut [7u8; 81])
+    writes(&rt, &mixed(&rt)?, &MIXED);
+    Ok(())
 }
 
 #[test]
 fn a_reader_answers_and_writes_its_bytes(rt: HostRuntime) -> Result<(), Fail> {
     let mut scratch = Book::new(rt.alloc())?;
-    let Ok(image) = read(&mut scratch, &MIXED) else {
-        return Err(Fail::new("does not read"));
-    };
+    let image = read(&mut scratch, &MIXED)?;
     assert!(rt; image.count(ListName::Entities) == 8);
     assert!(rt; image.body(ListName::Lines).len() == 14);
-    assert!(rt; matches!(image.member_at(1), Some(m) if m.account == 3 && m.role == 1));
+    assert!(rt;
+        image.member_at(1)
+            == Some(Member {
+                account: 3,
+                role: 1
+            })
+    );
     assert!(rt; image.link_at(2).is_none());
     let mut room = [0u8; 82];
     assert!(rt; image.write(&mut room).is_ok());
-    assert!(rt; same_bytes(&room, &MIXED));
-    let mut small = [0u8; 81];
-    assert!(rt; image.write(&mut small).is_err());
+    assert!(rt; room == MIXED);
+    assert!(rt; image.write(&mut [0u8; 81]).is_err());
     Ok(())
 }
 
 #[test]
 fn a_scratch_book_may_hold_anything(rt: HostRuntime) -> Result<(), Fail> {
     let mut scratch = mixed(&rt)?;
-    let Ok(image) = read(&mut scratch, &PAIRS) else {
-        return Err(Fail::new("does not read"));
-    };
+    let image = read(&mut scratch, &PAIRS)?;
     assert!(rt; image.count(ListName::Rights) == 1);
     Ok(())
 }
 
 fn fault_is(scratch: &mut Book, bytes: &[u8], part: u8, record: u16) -> bool {
-    match read(scratch, bytes) {
-        Err(Refusal::Unreadable { part: p, record: r }) => p == part && r == record,
-        _ => false,
-    }
+    read(scratch, bytes).err() == Some(Refusal::Unreadable { part, record })
 }
 
 #[test]
 fn damages_are_faults(rt: HostRuntime) -> Result<(), Fail> {
     let mut scratch = Book::new(rt.alloc())?;
-    for damage in &DAMAGES {
+    for (place, byte, part, record) in DAMAGES {
         let mut bytes = MIXED;
-        assert!(rt; damage.place < 82);
-        bytes[damage.place] = damage.byte;
-        assert!(rt; fault_is(&mut scratch, &bytes, damage.part, damage.record));
+        assert!(rt; place < 82);
+        bytes[place] = byte;
+        assert!(rt; fault_is(&mut scratch, &bytes, part, record));
     }
     Ok(())
 }
@@ -150,13 +127,10 @@ fn lengths_are_faults(rt: HostRuntime) -> Result<(), Fail> {
 fn what_stands_already_is_a_fault(rt: HostRuntime) -> Result<(), Fail> {
     let mut scratch = Book::new(rt.alloc())?;
     let mut bytes = MIXED;
-    bytes[54] = 1;
-    bytes[55] = 4;
+    bytes[54..56].copy_from_slice(&[1, 4]);
     assert!(rt; fault_is(&mut scratch, &bytes, 2, 1));
     let mut bytes = MIXED;
-    bytes[60] = 4;
-    bytes[61] = 6;
-    bytes[62] = 1;
+    bytes[60..63].copy_from_slice(&[4, 6, 1]);
     assert!(rt; fault_is(&mut scratch, &bytes, 3, 1));
     Ok(())
 }

@@ -5,41 +5,43 @@ ghost use Rattle.layer.specs.Changes.{stand_after};
 ghost use Rattle.layer.specs.Proposals.{over};
 ghost use Rattle.layer.specs.Stands.{stand_of, meant};
 
-use access::Refusal;
-use book::{Answer, Book, Call, fill};
+use access::{EntityNumbers, Member, Refusal, RightNumbers};
+use book::{Book, Call, fill};
 use catalogue::{Catalogue, ListName};
 use layer::{Change, Layer, Response};
 
 // In every list of changes below, account 3 and role 4 come first.
-pub const ACCOUNT: Change = Change::Build(Call::Declare {
+pub const ACCOUNT: Change = Change::Build(Call::Declare(EntityNumbers {
     kind: 3,
     parent: 0,
     owner: 3,
     mode: 0,
-});
+}));
 
-pub const ROLE: Change = Change::Build(Call::Declare {
+pub const ROLE: Change = Change::Build(Call::Declare(EntityNumbers {
     kind: 4,
     parent: 0,
     owner: 3,
     mode: 0,
-});
+}));
 
-pub const GRANT: Change = Change::Build(Call::Grant {
+pub const GRANT: Change = Change::Build(Call::Grant(RightNumbers {
     principal: 3,
     entity: 0,
     right: 0,
     option: 0,
-});
+}));
 
-pub const MEMBER: Change = Change::ProposeMember {
+pub const IN_ROLE: Member = Member {
     account: 3,
     role: 4,
 };
 
-// Proposes to give a principal the right to select from the root.
-pub fn right_to(principal: u8, option: u8) -> Change {
-    Change::ProposeRight {
+pub const MEMBER: Change = Change::ProposeMember(IN_ROLE);
+
+// The right of a principal to select from the root.
+pub fn right_of(principal: u8, option: u8) -> RightNumbers {
+    RightNumbers {
         principal,
         entity: 0,
         right: 0,
@@ -47,31 +49,9 @@ pub fn right_to(principal: u8, option: u8) -> Change {
     }
 }
 
-// The number that a call returned, or that of its refusal.
-pub fn shown(r: Result<usize, Refusal>) -> Result<usize, u8> {
-    match r {
-        Ok(n) => Ok(n),
-        Err(refusal) => Err(refusal.number()),
-    }
-}
-
-// The same of a response; 0 or 1 of a withdrawal.
-fn number_in(r: Response) -> Result<usize, u8> {
-    match r {
-        Response::Answered(Answer::Number(n)) => Ok(n),
-        Response::Answered(Answer::Declined(refusal)) => Err(refusal.number()),
-        Response::Withdrawn(had) => Ok(had as usize),
-    }
-}
-
-// Whether the responses have these numbers.
-pub fn agree(responses: &[Response], numbers: &[Result<usize, u8>]) -> bool {
-    for (response, number) in responses.iter().zip(numbers) {
-        if number_in(*response) != *number {
-            return false;
-        }
-    }
-    responses.len() == numbers.len()
+// Proposes to give a principal that right.
+pub fn right_to(principal: u8, option: u8) -> Change {
+    Change::ProposeRight(right_of(principal, option))
 }
 
 // What `fill` says of a layer over a book.
@@ -90,15 +70,12 @@ pub fn gather(
 pub fn rights_are<C: Catalogue>(catalogue: &C, rights: &[(u8, bool)]) -> bool
     requires { Sound (C.Catalogue.meaning catalogue.now) }
 {
-    for (i, (principal, option)) in rights.iter().enumerate() {
-        let Some(right) = catalogue.right_at(i) else {
-            return false;
-        };
-        if right.principal != *principal || right.option != *option {
-            return false;
-        }
-    }
     catalogue.count(ListName::Rights) == rights.len()
+        && rights.iter().enumerate().all(|(n, (principal, option))| {
+            catalogue
+                .right_at(n)
+                .is_some_and(|r| r.principal == *principal && r.option == *option)
+        })
 }
 
 // Proposes that account 3 is in role 4, `n` times; returns what the last proposal returned.
@@ -108,7 +85,7 @@ pub fn crowd<C: Catalogue>(layer: &mut Layer<C>, n: usize) -> Result<usize, Refu
 {
     let mut last = Ok(0);
     for _ in 0..n {
-        last = layer.propose_member(3, 4);
+        last = layer.propose_member(IN_ROLE);
     }
     last
 }

@@ -6,11 +6,13 @@ mod examples;
 #[cfg(test)]
 mod tests {
     use crate::examples::{
-        ACCOUNT, GRANT, MEMBER, ROLE, agree, crowd, gather, right_to, rights_are, shown,
+        ACCOUNT, GRANT, MEMBER, ROLE, crowd, gather, right_of, right_to, rights_are,
     };
+    use access::Refusal::{Full, NoRoom, NotListed, WrongKind};
     use book::{Book, fill};
     use catalogue::{Catalogue, ListName};
-    use layer::{Change, Layer, Response};
+    use layer::Response::{Answered, Withdrawn};
+    use layer::{Change, Layer};
     use std::test::Fail;
 
     #[test]
@@ -24,11 +26,19 @@ mod tests {
             right_to(4, 0),
             Change::Withdraw,
         ];
-        let mut responses = [Response::Withdrawn(true); 6];
-        let Ok(_) = gather(&mut layer, &changes, &mut responses) else {
-            return Err(Fail::new("no room"));
-        };
-        assert!(rt; agree(&responses, &[Ok(3), Ok(4), Ok(0), Ok(1), Ok(2), Ok(1)]));
+        let mut responses = [Withdrawn(true); 6];
+        gather(&mut layer, &changes, &mut responses)?;
+        assert!(rt;
+            responses
+                == [
+                    Answered(Ok(3)),
+                    Answered(Ok(4)),
+                    Answered(Ok(0)),
+                    Answered(Ok(1)),
+                    Answered(Ok(2)),
+                    Withdrawn(true),
+                ]
+        );
         assert_eq!(rt; layer.count(ListName::Members), 1);
         assert!(rt; rights_are(&layer, &[(3, true)]));
         Ok(())
@@ -38,11 +48,9 @@ mod tests {
     fn place_of_its_own(rt: HostRuntime) -> Result<(), Fail> {
         let mut layer = Layer::new(rt.alloc(), Book::new(rt.alloc())?)?;
         let changes = [ACCOUNT, ROLE, GRANT, right_to(3, 1), right_to(3, 1)];
-        let mut responses = [Response::Withdrawn(true); 5];
-        let Ok(_) = gather(&mut layer, &changes, &mut responses) else {
-            return Err(Fail::new("no room"));
-        };
-        assert!(rt; agree(&responses, &[Ok(3), Ok(4), Ok(0), Ok(0), Ok(1)]));
+        let mut responses = [Withdrawn(true); 5];
+        gather(&mut layer, &changes, &mut responses)?;
+        assert!(rt; responses == [3, 4, 0, 0, 1].map(|n| Answered(Ok(n))));
         assert!(rt; rights_are(&layer, &[(3, false), (3, true), (3, true)]));
         Ok(())
     }
@@ -58,17 +66,23 @@ mod tests {
             MEMBER,
             Change::Withdraw,
         ];
-        let mut responses = [Response::Withdrawn(true); 7];
+        let mut responses = [Withdrawn(true); 7];
         assert_eq!(rt;
-            shown(fill(&mut layer, &changes, &mut responses[..5])),
-            Err(6)
+            fill(&mut layer, &changes, &mut responses[..5]),
+            Err(NoRoom)
         );
-        assert_eq!(rt; shown(fill(&mut layer, &changes, &mut responses)), Ok(6));
+        assert_eq!(rt; fill(&mut layer, &changes, &mut responses), Ok(6));
         assert!(rt;
-            agree(
-                &responses,
-                &[Ok(3), Err(1), Err(1), Err(2), Err(1), Ok(0), Ok(1)],
-            )
+            responses
+                == [
+                    Answered(Ok(3)),
+                    Answered(Err(NotListed)),
+                    Answered(Err(NotListed)),
+                    Answered(Err(WrongKind)),
+                    Answered(Err(NotListed)),
+                    Withdrawn(false),
+                    Withdrawn(true),
+                ]
         );
         Ok(())
     }
@@ -84,13 +98,17 @@ mod tests {
         changes[19] = right_to(0, 0);
         changes[20] = right_to(5, 0);
         changes[21] = Change::Withdraw;
-        let mut responses = [Response::Withdrawn(true); 23];
-        assert_eq!(rt; shown(fill(&mut layer, &changes, &mut responses)), Ok(23));
+        let mut responses = [Withdrawn(true); 23];
+        assert_eq!(rt; fill(&mut layer, &changes, &mut responses), Ok(23));
         assert!(rt;
-            agree(
-                &responses[17..],
-                &[Ok(15), Err(5), Err(2), Err(1), Ok(1), Ok(15)],
-            )
+            responses.ends_with(&[
+                Answered(Ok(15)),
+                Answered(Err(Full)),
+                Answered(Err(WrongKind)),
+                Answered(Err(NotListed)),
+                Withdrawn(true),
+                Answered(Ok(15)),
+            ])
         );
         Ok(())
     }
@@ -99,17 +117,15 @@ mod tests {
     fn layer_over_layer(rt: HostRuntime) -> Result<(), Fail> {
         let mut lower = Layer::new(rt.alloc(), Book::new(rt.alloc())?)?;
         let changes = [ACCOUNT, ROLE, GRANT, right_to(4, 0)];
-        let mut responses = [Response::Withdrawn(true); 4];
-        let Ok(_) = gather(&mut lower, &changes, &mut responses) else {
-            return Err(Fail::new("no room"));
-        };
+        let mut responses = [Withdrawn(true); 4];
+        gather(&mut lower, &changes, &mut responses)?;
         let mut upper = Layer::new(rt.alloc(), lower)?;
-        assert_eq!(rt; shown(upper.propose_right(4, 0, 0, 1)), Ok(0));
+        assert_eq!(rt; upper.propose_right(right_of(4, 1)), Ok(0));
         assert!(rt; rights_are(&upper, &[(3, false), (4, false), (4, true)]));
-        assert_eq!(rt; shown(crowd(&mut upper, 16)), Err(5));
+        assert_eq!(rt; crowd(&mut upper, 16), Err(Full));
         assert_eq!(rt; upper.count(ListName::Members), 15);
         let mut top = Layer::new(rt.alloc(), upper)?;
-        assert_eq!(rt; shown(crowd(&mut top, 16)), Ok(15));
+        assert_eq!(rt; crowd(&mut top, 16), Ok(15));
         assert_eq!(rt; top.count(ListName::Members), 31);
         Ok(())
     }

@@ -2,6 +2,6 @@
 #![tactic(auto)]
 
 #[cfg(test)]
-mod examples;
+mod steps;
 #[cfg(test)]
 mod tests;
