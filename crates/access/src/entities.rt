@@ -1,7 +1,7 @@
 // What a database consists of.
 ghost use Rattle.std.specs.Prelude.{◌≡◌, Some};
 ghost use Rattle.access.specs.Codes.{Names};
-ghost use Rattle.access.specs.Lists.{first_entity};
+ghost use Rattle.access.specs.Lists.{first_entity, is_principal};
 ghost use Rattle.access.specs.Numbers.{kind_at, kind_number, mode_at, mode_number};
 
 use crate::refusals::Refusal;
@@ -39,6 +39,14 @@ impl From<Kind> for u8 {
 
     fn from(x: Kind) -> u8 {
         x as u8
+    }
+}
+
+impl Kind {
+    pub fn is_principal(self) -> bool
+        ensures { result ≡ is_principal self }
+    {
+        matches!(self, Kind::Account | Kind::Role)
     }
 }
 

@@ -13,6 +13,7 @@ pub trait Exact: Eq {
     ghost same: { (x y : Self) → Self.eq x y ≡ true → x ≡ y };
 }
 
+// Kept: an impl for each type, since none may come from a macro of the repository's own.
 impl Exact for u8 {
     ghost same = { Prim.search rules };
 }
