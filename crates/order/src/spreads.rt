@@ -27,6 +27,7 @@ pub fn spread<O: Order>(order: &O, base: &Row) -> Row
     ensures past { (x k : ℕ) → 96 ≤ x → told result.sets x k ≡ false }
 {
     let mut row = Row::empty();
+    // Kept: tried with `array::from_fn`, and the proof did not close.
     for x in 0..ENTITIES {
         row.add(x, gather(order, base, x));
     }

@@ -23,7 +23,7 @@ pub struct Table<K> {
     ghost antisymmetric: { Antisymmetric relation.rows },
 }
 
-// Kept: neither a derive nor `derive_where` takes a generic struct with ghost fields.
+// Kept: `Clone` and `Copy` cannot be derived on a struct with a type parameter and ghost fields.
 impl<K> Clone for Table<K> {
     ghost is_clone = { λ x y. y ≡ x };
 

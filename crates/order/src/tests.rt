@@ -5,6 +5,7 @@ use crate::spreads::spread;
 use crate::tables::{EntityOrder, RoleOrder};
 use access::{Entity, Kind, Link, Mode, Right, RightSet};
 
+// Kept: written out, since a constant may call no function.
 const ROOT: Entity = Entity {
     kind: Kind::Container,
     parent: 0,

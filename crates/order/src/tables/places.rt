@@ -30,6 +30,7 @@ fn places(entities: &[Entity]) -> Relation
     relation
 }
 
+// Kept: that there are few is a clause, since a slice of the caller's carries no fact, and a wrapper round it is no plainer.
 impl EntityOrder {
     // The order that the parents give.
     pub fn build(entities: &[Entity]) -> EntityOrder

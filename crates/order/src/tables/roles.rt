@@ -35,6 +35,7 @@ fn start(entities: &[Entity]) -> Relation
     relation
 }
 
+// Kept: that there are few is a clause, since a slice of the caller's carries no fact, and a wrapper round it is no plainer.
 impl RoleOrder {
     // The order that the links give.
     pub fn build(entities: &[Entity], links: &[Link]) -> RoleOrder
