@@ -61,15 +61,15 @@ pub fn judge_right<C: Catalogue>(
     ) else {
         return Err(Refusal::NotListed);
     };
-    match principal.kind {
-        Kind::Account | Kind::Role => Ok(RightRecord {
-            principal: numbers.principal,
-            entity: numbers.entity,
-            right,
-            option,
-        }),
-        _ => Err(Refusal::WrongKind),
+    if !principal.kind.is_principal() {
+        return Err(Refusal::WrongKind);
     }
+    Ok(RightRecord {
+        principal: numbers.principal,
+        entity: numbers.entity,
+        right,
+        option,
+    })
 }
 
 // The member record, or why a book with the catalogue's entities does not take it.

@@ -59,6 +59,7 @@ fn own_number(entities: &[Entity], x: Entity) -> bool
     x.kind == Kind::Account && x.owner as usize == entities.len()
 }
 
+// Kept: the entities and the next one as two parameters; a struct of both for five private tests is no plainer.
 fn entity_listed(entities: &[Entity], x: Entity) -> bool
     ensures { result ≡ entity_listed entities.now x.parent x.owner (Some x.mode) x.kind }
 {
@@ -76,7 +77,7 @@ fn container_at(entities: &[Entity], n: u8) -> bool
 fn principal_at(entities: &[Entity], n: u8) -> bool
     ensures { result ≡ fits is_principal entities.now n }
 {
-    matches!(kind_at(entities, n), Some(Kind::Account | Kind::Role))
+    kind_at(entities, n).is_some_and(Kind::is_principal)
 }
 
 fn entity_fits(entities: &[Entity], x: Entity) -> bool

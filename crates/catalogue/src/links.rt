@@ -10,6 +10,7 @@ use access::{Entity, Kind, Link, Refusal};
 use order::{Order, RoleOrder};
 
 // The link, or why a book with these entities and links does not take it.
+// Kept: that there are few is a clause, since a slice of the caller's carries no fact, and a wrapper round it is no plainer.
 pub fn judge_link(entities: &[Entity], links: &[Link], link: Link) -> Result<Link, Refusal>
     requires few { length entities.now ≤ 96 }
     requires linked { Linked entities.now links.now }
