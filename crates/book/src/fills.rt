@@ -43,6 +43,7 @@ pub fn fill<T: Gathers>(
         return Err(Refusal::NoRoom);
     }
     on.renew();
+    // Kept: answers by their numbers, since of places that `zip` over `iter_mut` lends a proof knows nothing.
     for (i, call) in calls.iter().enumerate() {
         answers[i] = on.perform(*call);
     }

@@ -1,13 +1,13 @@
 // Calls as text for people.
 use crate::calls::Call;
-use access::{Link, Member};
+use access::Member;
 use std::fmt;
 
 impl fmt::Display for Call {
     fn fmt<W: fmt::Write>(&self, f: &mut fmt::Formatter<W>) -> fmt::Result {
         match self {
             Call::Declare(numbers) => write!(f, "declare {numbers}"),
-            Call::Link(Link { lower, upper }) => write!(f, "link role {lower} below role {upper}"),
+            Call::Link(link) => write!(f, "link {link}"),
             Call::Grant(numbers) => write!(f, "grant {numbers}"),
             Call::Join(Member { account, role }) => write!(
                 f,
