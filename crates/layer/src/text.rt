@@ -1,6 +1,5 @@
 // Changes and responses as text for people.
 use crate::changes::{Change, Response};
-use access::Member;
 use std::fmt;
 
 impl fmt::Display for Change {
@@ -8,9 +7,7 @@ impl fmt::Display for Change {
         match self {
             Change::Build(call) => write!(f, "{call}"),
             Change::ProposeRight(numbers) => write!(f, "propose {numbers}"),
-            Change::ProposeMember(Member { account, role }) => {
-                write!(f, "propose account {account} in role {role}")
-            }
+            Change::ProposeMember(member) => write!(f, "propose {member}"),
             Change::Withdraw => f.write_str("withdraw"),
         }
     }
