@@ -59,6 +59,7 @@ fn contents_end(bytes: &[u8]) -> Result<usize, Refusal>
         return Err(Refusal::Unreadable { part: 0, record: 5 });
     }
     let mut end = 20;
+    // Kept: a loop with `?`; a `try_fold` over the lists is no plainer.
     for list in IN_ORDER {
         end = entry_end(bytes, list, end)?;
     }

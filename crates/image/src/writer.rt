@@ -52,7 +52,8 @@ fn put_contents(book: &Book, room: &mut [u8])
     ensures { room.new ≡ contents (lists_of book.now) }
 {
     let mut start = 20;
-    // Kept: parts by their places, since of parts from `chunks_exact_mut` a proof knows only the length (tried, and so `split_at_mut`).
+    // Kept: parts by their places; of parts from `chunks_exact_mut` a proof knows only the length, and `split_at_mut` in each turn
+    // was tried and did not close.
     for (i, list) in IN_ORDER.iter().enumerate() {
         put_entry(start, book.count(*list), &mut room[i * 4..i * 4 + 4]);
         start += body_len(book, *list);
@@ -85,6 +86,7 @@ fn put_records<T: Coded>(book: &Book, room: &mut [u8])
 }
 
 // Fills the room of the body of a list.
+// Kept: an arm for each list, since it picks the type of the records.
 fn put_body(book: &Book, list: ListName, room: &mut [u8])
     requires { length room.old ≡ length (body_of (lists_of book.now) list) }
     ensures { room.new ≡ body_of (lists_of book.now) list }
@@ -104,7 +106,7 @@ fn put_bodies(book: &Book, room: &mut [u8])
     ensures { room.new ≡ bodies (lists_of book.now) }
 {
     let mut start = 0;
-    // Kept: a place that runs, for the same reason as in the contents.
+    // Kept: a place that runs, since `split_at_mut` in each turn was tried and did not close.
     for list in IN_ORDER {
         let end = start + body_len(book, list);
         put_body(book, list, &mut room[start..end]);
