@@ -5,6 +5,7 @@ ghost use Rattle.catalogue.specs.Sound.{Sound};
 use catalogue::{Catalogue, Listed};
 
 // Makes a table that has room for it a list of a catalogue.
+// Kept: the form of a loop over a catalogue's records is a rule of the project.
 #[tactic(auto, using(crate::proofs::Copying::take_found))]
 pub(crate) fn load<T: Listed, C: Catalogue>(catalogue: &C, table: &mut Vec<T>)
     requires sound { Sound (C.meaning catalogue.now) }

@@ -53,6 +53,7 @@ impl Model {
     }
 
     // Marks an account and the roles that it is in, with member records besides the catalogue's.
+    // Kept: that an account is below 96 is a clause; a type for such numbers would reach into every step.
     fn who(&self, joins: &[Member], account: u8) -> Row
         requires { account < 96 }
         ensures { (q : ℕ) → Decides (told result.sets q 0) (AsOne (lists_of self.now) ((lists_of self.now).members ++ joins.now) account q) }
@@ -99,6 +100,7 @@ impl Model {
     }
 
     // The rows of an account, with right and member records besides the catalogue's.
+    // Kept: `account < 96`, as above.
     pub fn rows(&self, grants: &[RightRecord], joins: &[Member], account: u8) -> Rows
         requires { account < 96 }
         ensures { (S : State) → Recorded (lists_of self.now) grants.now joins.now S → Rowed (lists_of self.now) S account result.holds.sets result.grants.sets }
