@@ -92,6 +92,7 @@ impl<'a> Course<'a> {
     }
 
     // The rows of an account.
+    // Kept: that an account is below 96 is a clause; a type for such numbers would reach into every step.
     fn rows(&mut self, account: u8) -> Rows
         requires small { account < 96 }
         ensures same { self.new ≡ self.old }

@@ -61,7 +61,7 @@ pub fn one_owner(model: &Model, x: Object, y: Object) -> bool
 fn is_principal(model: &Model, n: u8) -> bool
     ensures { Decides result (Principal (lists_of model.now) n) }
 {
-    is_kind(model, n, Kind::Account) || is_kind(model, n, Kind::Role)
+    kind_at(model.entities(), n).is_some_and(Kind::is_principal)
 }
 
 fn grants_proper(model: &Model, g: RightRecord) -> bool
