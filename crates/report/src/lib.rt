@@ -8,6 +8,7 @@ use catalogue::{Catalogue, Listed};
 use std::fmt::Display;
 
 // Prints a list with its name and count, and its records with their numbers.
+// Kept: the form of a loop over a catalogue's records is a rule of the project.
 fn print_list<T: Listed + Display, C: Catalogue>(
     rt: &impl Print,
     name: &str,
