@@ -1,5 +1,5 @@
 -- Laws of the numbers of rights.
-use Rattle.std.proofs.Common.{◌<◌, arith}
+use Rattle.std.proofs.Common.{rules, ◌≡◌, ℕ, zero, suc, ◌<◌, refl, arith}
 use Rattle.access.specs.Numbers.{right_number}
 use Rattle.access.specs.declared.rights.Right.{Right}
 use Rattle.access.specs.declared.rights.Right.TheVariants.{Select, Insert, Update, Delete, Alter, Execute, Impersonate}
@@ -12,3 +12,18 @@ right_small Delete = omega arith
 right_small Alter = omega arith
 right_small Execute = omega arith
 right_small Impersonate = omega arith
+
+-- rights of one number are one right
+pub same_right : (r s : Right) → right_number r ≡ right_number s → r ≡ s
+same_right = search rules
+
+-- each number below 7 is one of a right
+pub right_numbered : (k : ℕ) → k < 7 → (r : Right) × (right_number r ≡ k)
+right_numbered zero h = (Select, refl)
+right_numbered (suc zero) h = (Insert, refl)
+right_numbered (suc (suc zero)) h = (Update, refl)
+right_numbered (suc (suc (suc zero))) h = (Delete, refl)
+right_numbered (suc (suc (suc (suc zero)))) h = (Alter, refl)
+right_numbered (suc (suc (suc (suc (suc zero))))) h = (Execute, refl)
+right_numbered (suc (suc (suc (suc (suc (suc zero)))))) h = (Impersonate, refl)
+right_numbered (suc (suc (suc (suc (suc (suc (suc k))))))) h = absurd (omega arith)

@@ -3,7 +3,7 @@ use Rattle.std.proofs.Common.{◌≡◌, ℕ, zero, suc, ◌%◌, ◌^◌, ◌<�
 use native.Mathlib.Nat.{zero-div, div-eq_of_lt}
 use Rattle.std.proofs.lemmas.Bool.{le-ltb}
 use Rattle.access.specs.Bits.{bit}
-use Rattle.access.specs.Sets.{byte_at}
+use Rattle.access.specs.Sets.{byte_at, told}
 use Rattle.access.specs.declared.sets.RightSet.{RightSet}
 
 pub bit_zero : (k : ℕ) → bit 0 k ≡ false
@@ -25,6 +25,12 @@ bit_full (suc (suc (suc (suc zero)))) = refl
 bit_full (suc (suc (suc (suc (suc zero))))) = refl
 bit_full (suc (suc (suc (suc (suc (suc zero)))))) = refl
 bit_full (suc (suc (suc (suc (suc (suc (suc k))))))) = bit_past 127 7 (suc (suc (suc (suc (suc (suc (suc k))))))) (lit< tt) (omega arith) ∙ sym (le-ltb _ 7 (omega arith))
+
+-- no set has a right past the seven
+pub told_past : (ss : List RightSet) (x k : ℕ) → 7 ≤ k → told ss x k ≡ false
+told_past [] x k l = bit_zero k
+told_past (s ∷ ss) zero k l = bit_past s.bits 7 k s.small l
+told_past (s ∷ ss) (suc x) k l = told_past ss x k l
 
 pub byte_get_or : (ss : List RightSet) (x : ℕ) (d : RightSet) → x < length ss → byte_at ss x ≡ (get_or ss x d).bits
 byte_get_or [] x d h = absurd (omega arith)

@@ -49,3 +49,12 @@ impl RightSet {
         }
     }
 }
+
+// The number of a set, whose bits are its rights.
+impl From<RightSet> for u8 {
+    ghost from_gives = { λ s n. n ≡ s.bits };
+
+    fn from(set: RightSet) -> u8 {
+        set.bits
+    }
+}
