@@ -4,5 +4,7 @@ pub mod Growing
 pub mod Acting
 pub mod Covering
 pub mod Realizing
+pub mod Closing
 pub mod Ordering
+pub mod Counting
 pub mod Example

@@ -2,8 +2,8 @@
 use Rattle.std.proofs.Common.{ℕ, true, List, [], ◌∷◌, ◌++◌, sym, refl, subst}
 use mathlib.Core.List.Memᴰ
 use Rattle.access.specs.declared.entities.Kind.TheVariants.{Account}
+use Rattle.access.specs.declared.rights.Right.{Right}
 use Rattle.access.specs.declared.rights.Right.TheVariants.{Impersonate}
-use Rattle.access.specs.declared.rights.RightRecord.{RightRecord}
 use Rattle.access.specs.declared.code.Object.{Object}
 use Rattle.access.specs.declared.code.Runner.{Runner}
 use Rattle.access.specs.declared.code.Runner.TheVariants as runner
@@ -15,11 +15,12 @@ use Rattle.catalogue.specs.Sound.{Sound}
 use Rattle.runs.specs.declared.steps.Entry.{Entry}
 use Rattle.runs.specs.declared.steps.Step.{Step}
 use Rattle.runs.specs.declared.steps.Step.TheVariants.{Switch, Grant, Join, Plant, Call, Follow}
-use Rattle.runs.specs.Standing.{Is, IsObject, OneOwner, a_role, Proper, a_call, a_grant, a_join}
+use Rattle.runs.specs.Standing.{Is, IsObject, OneOwner, Stands, a_role, Proper, a_call, a_grant, a_join}
 use Rattle.runs.specs.States.{State, Part, start, pair, acting, planting, done}
 use Rattle.runs.specs.Rights.{right_record, member_record, Holds}
 use Rattle.runs.specs.Runs.{worker, Lends, by_owner, by_grant, LineStands, in_catalogue, Allowed, switch, grant, join, plant, call, follow, after, Run, ends, goes}
 use Rattle.runs.specs.Saturated.{Plantable, Realized, Rule}
+use Rattle.runs.specs.Turns.{to_public}
 use Rattle.runs.specs.Laws.{Covers, SaturationTells, RulesAreSteps}
 use Rattle.runs.proofs.Grounds.{is_stands, role_is, public_role, IsCall, to, IsRunner, calls, runners}
 use Rattle.runs.proofs.RightLaws.{holds_more, may_self, opened}
@@ -90,12 +91,11 @@ module _ (L : Lists) (s : Sound L) where
     less : {F G : State} → Part F G → Realized L k G → Realized L k F
     less p z = record { steps = z.steps; final = z.final; run = z.run; part = part_trans p z.part }
 
-  -- everyone may impersonate v, and grant it on
-  abbrev pub to_public : ℕ → RightRecord
-  to_public v = right_record public v Impersonate true
+  pub public_proper : (e : ℕ) (r : Right) → Stands L e → Proper L (action.Grant (right_record public e r true))
+  public_proper e r t = a_grant (a_role (role_is L public (public_role L s))) t
 
-  pub to_public_proper : (v : ℕ) → Is L Account v → Proper L (action.Grant (to_public v))
-  to_public_proper v i = a_grant (a_role (role_is L public (public_role L s))) (is_stands L i)
+  to_public_proper : (v : ℕ) → Is L Account v → Proper L (action.Grant (to_public v))
+  to_public_proper v i = public_proper v Impersonate (is_stands L i)
 
   module _ (k : ℕ) (F : State) (z : Realized L k F) (v : ℕ) (x : Object) (o : IsObject L x) (m : pair x v ∈ F.entered) (p : Plantable L F x) where
     -- plant, follow, switch
@@ -136,7 +136,7 @@ rules_are_steps L s k i F G z r = go G r
 
     go : (G : State) → Rule L F G → Realized L k G
     go G (Rule.switch {a = a} {v = v} m j h) = one L s k {t = Switch a v} z (switch m j h)
-    go G (Rule.grant {a = a} {e = e} {r = r} m t h) = one L s k {t = Grant a (right_record public e r true)} z (grant m (a_grant (a_role (role_is L public (public_role L s))) t) h)
+    go G (Rule.grant {a = a} {e = e} {r = r} m t h) = one L s k {t = Grant a (right_record public e r true)} z (grant m (public_proper L s e r t) h)
     go G (Rule.join {a = a} {q = q} {v = v} m j n h) = one L s k {t = Join a (member_record v q)} z (join m (a_join n j) h)
     go G (Rule.call {a = a} {x = x} m o h) = one L s k {t = Call a x} z (call m o h)
     go G (Rule.follow {v = v} {l = l} m n h) = one L s k {t = Follow v l} z (follow m (in_catalogue n) h)

@@ -7,10 +7,12 @@ use Rattle.access.specs.Orders.{RoleBelow, Within}
 use Rattle.catalogue.specs.Sound.{Sound}
 use Rattle.runs.specs.declared.steps.Step.{Step}
 use Rattle.runs.specs.Standing.{Is, Stands}
-use Rattle.runs.specs.States.{State, Part}
+use Rattle.runs.specs.States.{State, Part, start}
 use Rattle.runs.specs.Rights.{Holds}
 use Rattle.runs.specs.Runs.{Allowed, after, Run, ActsAs, Use, Hold}
 use Rattle.runs.specs.Saturated.{Closed, Realized, Rule}
+use Rattle.runs.specs.Turns.{Turned}
+use Rattle.runs.specs.Limits.{Limits}
 
 -- a larger state allows each step that a smaller one allows, and is larger after it
 abbrev pub LargerAllows : Type 0
@@ -67,3 +69,13 @@ pub record Order (on : ℕ → Type 0) (below : ℕ → ℕ → Type 0) : Type 0
 abbrev pub TwoOrders : Type 0
 TwoOrders =
     (L : Lists) → Sound L → Order (Is L Role) (RoleBelow L.entities L.links) × Order (Stands L) (Within L.entities)
+
+-- a state that a run comes to, and to which no account's turn adds anything, tells exactly what can be come to
+abbrev pub TurnsTell : Type 0
+TurnsTell =
+    (L : Lists) → Sound L → (k : ℕ) → Is L Account k → (S : State) (steps : List Step) → Run L (start L k) steps S
+    → ((a : ℕ) → Is L Account a → Turned L S S a) → Tells L k S
+
+-- a sound catalogue leaves little to add
+abbrev pub CountsAreLimits : Type 0
+CountsAreLimits = (L : Lists) → Sound L → Limits L

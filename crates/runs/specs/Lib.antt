@@ -3,5 +3,7 @@ pub mod States
 pub mod Rights
 pub mod Runs
 pub mod Saturated
+pub mod Turns
+pub mod Limits
 pub mod Laws
 pub mod Laboratory

@@ -24,6 +24,15 @@ abbrev pub worker : Runner → ℕ → ℕ
 worker runner.Caller v = v
 worker (runner.Account w) v = w
 
+-- the account that does a step
+abbrev pub doer_of : Step → ℕ
+doer_of (Switch a v) = a
+doer_of (Grant a g) = a
+doer_of (Join a m) = a
+doer_of (Plant a l) = a
+doer_of (Call a x) = a
+doer_of (Follow v l) = worker l.runner v
+
 module _ (L : Lists) (S : State) where
   -- account a may name the runner in a line that it plants
   pub data Lends (a : ℕ) : Runner → Type 0 where

@@ -2,7 +2,7 @@
 ghost use Rattle.access.specs.declared.rights.Right.TheVariants.{Impersonate};
 ghost use Rattle.catalogue.specs.Sound.{Sound};
 ghost use Rattle.runs.specs.Laboratory.{lab, lab_steps};
-ghost use Rattle.runs.specs.Laws.{LargerAllows, LargerRuns, RunsGrow, RunsAppend, ActingIsUsing, SaturationCovers, SaturationTells, RulesAreSteps, TwoOrders};
+ghost use Rattle.runs.specs.Laws.{LargerAllows, LargerRuns, RunsGrow, RunsAppend, ActingIsUsing, SaturationCovers, SaturationTells, RulesAreSteps, TwoOrders, TurnsTell, CountsAreLimits};
 ghost use Rattle.runs.specs.Runs.{UseBy, Use, ActsAs};
 
 // The laws of runs stand.
@@ -16,6 +16,8 @@ pub fn laws_stand()
     ensures exact { SaturationTells }
     ensures rules { RulesAreSteps }
     ensures orders { TwoOrders }
+    ensures turns { TurnsTell }
+    ensures limits { CountsAreLimits }
 {}
 
 // In the laboratory a session of account 4 comes to use impersonate on account 3 by four steps, and so to act as it.

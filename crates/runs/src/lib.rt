@@ -6,4 +6,4 @@ mod steps;
 mod text;
 
 pub use laws::{laboratory_stands, laws_stand};
-pub use steps::{Entry, Step};
+pub use steps::{Entry, Step, worker};
