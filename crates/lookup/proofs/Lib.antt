@@ -1,0 +1,3 @@
+pub mod Telling
+pub mod Slots
+pub mod Adding

@@ -1,0 +1,5 @@
+use Rattle.order.proofs.RowLaws.{clear_rows}
+use Rattle.lookup.proofs.grids.Grid.empty.Goals as goal
+
+pub returns : goal.returns
+returns g c = clear_rows g.row.N

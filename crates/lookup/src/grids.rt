@@ -1,0 +1,42 @@
+// Tables of bits.
+ghost use Rattle.std.specs.Prelude.{◌≡◌, ℕ, ◌<◌, true, false, ◌&&◌, ◌||◌, ◌==◌};
+ghost use Rattle.lookup.specs.Grids.{noted};
+
+// N rows of 128 bits.
+#[derive(Clone, Copy)]
+pub struct Grid<const N: usize> {
+    rows: [u128; N],
+}
+
+impl<const N: usize> Grid<N> {
+    // A table with no bit set.
+    pub fn empty() -> Self
+        ensures { (x y : ℕ) → noted result.rows x y ≡ false }
+    {
+        Grid { rows: [0; N] }
+    }
+
+    // Whether bit y of row x is set; past the end none is.
+    pub fn has(&self, x: usize, y: u8) -> bool
+        ensures { result ≡ noted self.now.rows x y }
+    {
+        let row = self.rows.get(x).copied().unwrap_or(0);
+        y < 128 && (row >> y) & 1 == 1
+    }
+
+    // Whether row x has no bit.
+    pub fn is_clear(&self, x: usize) -> bool
+        ensures { result ≡ true → (y : ℕ) → noted self.now.rows x y ≡ false }
+    {
+        self.rows.get(x).copied().unwrap_or(0) == 0
+    }
+
+    // Sets bit y of row x; past the end nothing changes.
+    pub fn put(&mut self, x: usize, y: u8)
+        ensures { (z k : ℕ) → z < N → k < 128 → noted self.new.rows z k ≡ (noted self.old.rows z k || (z == x && k == y)) }
+    {
+        if x < N && y < 128 {
+            self.rows[x] |= 1 << y;
+        }
+    }
+}
