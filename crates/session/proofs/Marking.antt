@@ -1,24 +1,10 @@
 -- Marks that a loop over records makes.
-use Rattle.std.proofs.Common.{◌≡◌, ℕ, zero, suc, ◌+◌, ◌<◌, Bool, true, ◌&&◌, ◌||◌, eqb, List, [], ◌∷◌, length, get_or, take, add-one, sym, refl, ap, ◌∙◌, ⊎_elim, arith}
-use mathlib.Core.List.Memᴰ
-use Rattle.std.specs.List.{list_any}
-use Rattle.std.proofs.lemmas.Bool.{both_ways, or_cases, or_left, or_right}
+use Rattle.std.proofs.Common.{◌≡◌, ℕ, zero, suc, ◌+◌, ◌<◌, Bool, ◌&&◌, ◌||◌, eqb, List, [], ◌∷◌, length, get_or, take, add-one, refl, ap, ◌∙◌, arith}
 use Rattle.std.proofs.lemmas.Bool.Decides.{nat_tests}
 use Rattle.access.specs.declared.entities.Entity.{Entity}
 use Rattle.access.specs.declared.sets.RightSet.{RightSet}
-use Rattle.access.specs.Lists.{◌∈◌}
 use Rattle.access.specs.Sets.{told}
 use Rattle.session.specs.Marks.{owned}
-
-module _ {A : Type 0} (p : A → Bool) where
-  pub any_gives : (xs : List A) → list_any p xs ≡ true → (x : A) × (x ∈ xs) × (p x ≡ true)
-  any_gives [] e = absurd (both_ways _ refl e)
-  any_gives (y ∷ xs) e =
-      ⊎_elim (λ h. (y, Memᴰ.head refl, h)) (λ h. let (x, m, t) = any_gives xs h in (x, Memᴰ.tail m, t)) (or_cases (p y) (list_any p xs) e)
-
-  pub any_from : {x : A} {xs : List A} → x ∈ xs → p x ≡ true → list_any p xs ≡ true
-  any_from (Memᴰ.head e) h = or_left _ _ (ap p (sym e) ∙ h)
-  any_from (Memᴰ.tail {x = y} m) h = or_right (p y) _ (any_from m h)
 
 -- one entity more
 owned_next : (who : List RightSet) (es : List Entity) (i x : ℕ) (d : Entity) → i < length es

@@ -14,7 +14,7 @@ use Rattle.runs.proofs.Grounds.{is_stands, few}
 use Rattle.runs.proofs.Ordering.{two_orders}
 use Rattle.session.specs.Marks.{marks_role}
 use Rattle.session.specs.Rowed.{AsOne}
-use Rattle.session.proofs.Marking.{any_gives, any_from}
+use Rattle.lookup.proofs.Telling.{any_gives, any_from}
 
 -- roles have numbers below 96
 roles_small : (L : Lists) → Sound L → {q r : ℕ} → RoleBelow L.entities L.links q r → (q < 96) × (r < 96)

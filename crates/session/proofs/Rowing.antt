@@ -1,5 +1,5 @@
 -- The rows of an account say what it holds and may grant.
-use Rattle.std.proofs.Common.{rules, ◌≡◌, ℕ, ◌<◌, Bool, true, false, not, ◌&&◌, ◌||◌, eqb, ltb, ◌⊎◌, List, [], Some, None, Decides, Option, sym, refl, ap, ◌∙◌, subst, inl, inr, ⊎_elim, arith}
+use Rattle.std.proofs.Common.{◌≡◌, ℕ, ◌<◌, Bool, true, false, not, ◌&&◌, ◌||◌, eqb, ltb, ◌⊎◌, List, [], Some, None, Decides, Option, sym, refl, ap, ◌∙◌, subst, inl, inr, ⊎_elim, arith}
 use mathlib.Core.Bool.{or-false}
 use mathlib.Core.List.Memᴰ
 use Rattle.std.specs.List.{slice_get, list_any}
@@ -13,7 +13,7 @@ use Rattle.access.specs.Lists.{◌∈◌, Lists}
 use Rattle.access.specs.Numbers.{right_number}
 use Rattle.access.specs.Orders.{Within}
 use Rattle.access.specs.Sets.{told}
-use Rattle.access.proofs.NumberLaws.{right_small}
+use Rattle.access.proofs.NumberLaws.{right_small, same_right}
 use Rattle.order.specs.Spreads.{Carried}
 use Rattle.order.proofs.TreeLaws.{below_stands}
 use Rattle.catalogue.specs.Sound.{Sound}
@@ -25,11 +25,7 @@ use Rattle.runs.proofs.Ordering.{place_stands}
 use Rattle.runs.proofs.RightLaws.{Knows, holds_known, may_known}
 use Rattle.session.specs.Marks.{gives_right, owned, owner_marked}
 use Rattle.session.specs.Rowed.{AsOne, Rowed}
-use Rattle.session.proofs.Marking.{any_gives, any_from}
-
--- rights of one number are one right
-same_right_lem : (r s : Right) → right_number r ≡ right_number s → r ≡ s
-same_right_lem = search rules
+use Rattle.lookup.proofs.Telling.{any_gives, any_from}
 
 -- Who has a right for an account
 
@@ -83,7 +79,7 @@ module _ (L : Lists) (ms : List Member) (a : ℕ) (who : List RightSet) (counts 
         q = g.principal;
         option = g.option;
         same = (counts g.principal).0 u.1;
-        there = Memᴰ.cast (record_is x r g (eqb-true _ _ v.0) (same_right_lem r g.right (eqb-true _ _ v.1))) i;
+        there = Memᴰ.cast (record_is x r g (eqb-true _ _ v.0) (same_right r g.right (eqb-true _ _ v.1))) i;
         able = u.0;
       }
 

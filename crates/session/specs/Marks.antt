@@ -1,5 +1,5 @@
 -- What is marked in a row.
-use Rattle.std.specs.Prelude.{◌≡◌, ℕ, ◌<◌, Bool, false, not, ◌&&◌, ◌||◌, List, Some, None, Option, ◌==◌, nat_lt, Decides}
+use Rattle.std.specs.Prelude.{ℕ, ◌<◌, Bool, false, not, ◌&&◌, ◌||◌, List, Some, None, Option, ◌==◌, nat_lt, Decides}
 use Rattle.std.specs.List.{slice_get}
 use Rattle.access.specs.declared.entities.Entity.{Entity}
 use Rattle.access.specs.declared.rights.RightRecord.{RightRecord}
@@ -7,10 +7,6 @@ use Rattle.access.specs.declared.roles.Member.{Member}
 use Rattle.access.specs.declared.sets.RightSet.{RightSet}
 use Rattle.access.specs.Numbers.{right_number}
 use Rattle.access.specs.Sets.{told}
-
--- each entity gets the marks that p gives it, beside those that it had
-abbrev pub Adds : List RightSet → List RightSet → (ℕ → ℕ → Bool) → Type 0
-Adds old new p = (x k : ℕ) → x < 96 → told new x k ≡ (told old x k || p x k)
 
 -- the row marks right k at x exactly where P holds of them
 abbrev pub Says : List RightSet → (ℕ → ℕ → Type 0) → Type 0

@@ -20,9 +20,14 @@ state_of L s = record {
 }
 
 -- no more than the opener and what n steps add
-pub record Filled (s : RunState) (n : ℕ) : Type 0 where
+pub record Kept (s : RunState) (n : ℕ) : Type 0 where
   pub acted : vec_len s.acted ≤ n + 1
   pub grants : vec_len s.grants ≤ n
   pub joins : vec_len s.joins ≤ n
   pub planted : vec_len s.planted ≤ n
   pub entered : vec_len s.entered ≤ n
+
+-- the same, and no more than n steps
+pub record Filled (s : RunState) (n : ℕ) : Type 0 where
+  pub kept : Kept s n
+  pub steps : vec_len s.steps ≤ n

@@ -2,7 +2,8 @@
 ghost use Rattle.std.specs.Prelude.{◌≡◌, not, ◌&&◌, ◌||◌, ◌==◌, nat_lt};
 ghost use Rattle.std.specs.List.{list_any};
 ghost use Rattle.access.specs.Sets.{told};
-ghost use Rattle.session.specs.Marks.{Adds, marks_role, gives_right, owned};
+ghost use Rattle.lookup.specs.Records.{Adds};
+ghost use Rattle.session.specs.Marks.{marks_role, gives_right, owned};
 
 use access::{Entity, Member, Right, RightRecord, RightSet};
 use order::Row;

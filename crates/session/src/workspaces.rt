@@ -1,4 +1,5 @@
 // What a question about sessions works in.
+use crate::lists::StepList;
 use crate::models::Model;
 use crate::states::RunState;
 use std::alloc::{AllocError, Global};
@@ -8,6 +9,7 @@ use std::alloc::{AllocError, Global};
 pub struct Workspace {
     pub model: Model,
     pub state: RunState,
+    pub list: StepList,
 }
 
 impl Workspace {
@@ -22,6 +24,7 @@ impl Workspace {
     {
         let model = Model::new(heap)?;
         let state = RunState::new(heap)?;
-        Ok(Workspace { model, state })
+        let list = StepList::new(heap)?;
+        Ok(Workspace { model, state, list })
     }
 }

@@ -6,7 +6,8 @@ ghost use Rattle.access.specs.Orders.{RoleBelow, Within};
 ghost use Rattle.access.specs.Sets.{told};
 ghost use Rattle.order.specs.Spreads.{Carried};
 ghost use Rattle.runs.specs.States.{State};
-ghost use Rattle.session.specs.Marks.{Adds, Says, marks_role, gives_right, owned};
+ghost use Rattle.lookup.specs.Records.{Adds};
+ghost use Rattle.session.specs.Marks.{Says, marks_role, gives_right, owned};
 ghost use Rattle.session.specs.Models.{lists_of};
 ghost use Rattle.session.specs.Rowed.{AsOne, Recorded, Rowed};
 

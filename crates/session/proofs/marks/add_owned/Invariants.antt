@@ -1,5 +1,6 @@
 use Rattle.std.proofs.Common.{◌&&◌, ltb, take}
-use Rattle.session.specs.Marks.{Adds, owned}
+use Rattle.lookup.specs.Records.{Adds}
+use Rattle.session.specs.Marks.{owned}
 use Rattle.session.proofs.marks.add_owned.Given as goal
 
 abbrev pub invariant-loop-i : goal.invariant-loop-i

@@ -1,6 +1,7 @@
 use Rattle.std.proofs.Common.{take}
 use Rattle.std.specs.List.{list_any}
-use Rattle.session.specs.Marks.{Adds, gives_right}
+use Rattle.lookup.specs.Records.{Adds}
+use Rattle.session.specs.Marks.{gives_right}
 use Rattle.session.proofs.marks.add_records.Given as goal
 
 abbrev pub invariant-loop-g : goal.invariant-loop-g

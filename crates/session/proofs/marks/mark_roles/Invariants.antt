@@ -1,6 +1,7 @@
 use Rattle.std.proofs.Common.{take}
 use Rattle.std.specs.List.{list_any}
-use Rattle.session.specs.Marks.{Adds, marks_role}
+use Rattle.lookup.specs.Records.{Adds}
+use Rattle.session.specs.Marks.{marks_role}
 use Rattle.session.proofs.marks.mark_roles.Given as goal
 
 abbrev pub invariant-loop-m : goal.invariant-loop-m
