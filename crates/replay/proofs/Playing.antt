@@ -3,6 +3,7 @@ use Rattle.std.proofs.Common.{◌≡◌, ℕ, zero, suc, ◌+◌, ◌<◌, List,
 use Rattle.std.proofs.lemmas.List.{take_more}
 use Rattle.std.proofs.lemmas.Option.{slice_get-get_or}
 use Rattle.std.proofs.lemmas.Bool.{not-false}
+use Rattle.access.specs.declared.entities.Kind.TheVariants.{Account}
 use Rattle.access.specs.declared.rights.Right.{Right}
 use Rattle.access.specs.declared.rights.Right.TheVariants.{Select}
 use Rattle.access.specs.Lists.{Lists}
@@ -10,6 +11,7 @@ use Rattle.access.specs.Numbers.{right_at}
 use Rattle.catalogue.specs.Sound.{Sound}
 use Rattle.catalogue.proofs.Judging.{judged_ok}
 use Rattle.runs.specs.declared.steps.Step.{Step}
+use Rattle.runs.specs.Standing.{Is}
 use Rattle.runs.specs.States.{State, start}
 use Rattle.runs.specs.Runs.{Allowed, after, Run, ends, goes}
 use Rattle.runs.proofs.Growing.{run_then}
@@ -20,7 +22,7 @@ use Rattle.replay.specs.Good.{Kept, SameRecords}
 use Rattle.replay.specs.declared.questions.Question.{Question}
 use Rattle.replay.specs.Questions.{Asks}
 use Rattle.replay.specs.Replays.{Stops, HeldBy, Comes, question_reasons}
-use Rattle.replay.proofs.Smalls.{is_small}
+use Rattle.fitting.proofs.Smalls.{is_small}
 
 pub run_same : {L : Lists} {S T U : State} {ss : List Step} → Run L S ss T → Run L S ss U → T ≡ U
 run_same ends ends = refl
@@ -57,7 +59,10 @@ module _ {L M : Lists} {a : ℕ} {steps : List Step} {T : State} (e : ℕ) (righ
   comes_from (suc sense) u = rw (run_same u.run run, ← same) at u.holds
 
 -- a question that is not declined is of an account
-pub question_small : {L : Lists} {a s e r : ℕ} {q : Question} → Sound L → Asks L.entities a s e r q → q.account < 96
-question_small {L} {a} {s} {e} {r} {q} sound asks =
+pub question_account : {L : Lists} {a s e r : ℕ} {q : Question} → Asks L.entities a s e r q → Is L Account q.account
+question_account {L} {a} {s} {e} {r} {q} asks =
     let ok = judged_ok (question_reasons L.entities a s e r) (unwrap_or (right_at r) Select) q.right asks.right in
-    rw asks.account (is_small sound (account_is L a (not-false _ ok.0.1.0)))
+    rw asks.account (account_is L a (not-false _ ok.0.1.0))
+
+pub question_small : {L : Lists} {a s e r : ℕ} {q : Question} → Sound L → Asks L.entities a s e r q → q.account < 96
+question_small sound asks = is_small sound (question_account asks)

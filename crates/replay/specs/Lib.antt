@@ -1,4 +1,3 @@
-pub mod Fits
 pub mod Situations
 pub mod Good
 pub mod Replays

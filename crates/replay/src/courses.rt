@@ -1,5 +1,5 @@
 // A run as far as it has come, and what it allows next.
-ghost use Rattle.std.specs.Prelude.{◌≡◌, ℕ, ◌+◌, ◌<◌, true, Decides};
+ghost use Rattle.std.specs.Prelude.{◌≡◌, ℕ, ◌+◌, ◌<◌, true, [], ◌∷◌, ◌++◌, Decides};
 ghost use Rattle.access.specs.Lists.{◌∈◌, Lists};
 ghost use Rattle.catalogue.specs.Sound.{Sound};
 ghost use Rattle.runs.specs.Rights.{Holds};
@@ -12,8 +12,8 @@ ghost use Rattle.replay.specs.Situations.{state_in};
 ghost use Rattle.replay.specs.Good.{Kept, SameRecords};
 
 use crate::courses::opening::doer;
-use crate::fitting::{Actor, tells};
 use access::{Action, Line, Right};
+use fitting::{Actor, tells};
 use runs::Step;
 use session::{Model, Rows, RunState};
 
@@ -81,14 +81,22 @@ impl<'a> Course<'a> {
         requires { account < 96 }
         ensures lists { result.lists ≡ lists_of model.now }
         ensures state { state_in result ≡ start (lists_of model.now) account }
+        ensures steps { result.came.steps.items ≡ [] }
         ensures few { Filled result.came 0 }
     {
-        state.open(account);
+        state.open(model, account);
         Course {
             model,
             state,
             seen: None,
         }
+    }
+
+    // The steps so far.
+    pub fn steps(&self) -> &[Step]
+        ensures { result.now ≡ self.now.came.steps.items }
+    {
+        &self.state.steps
     }
 
     // The rows of an account.
@@ -121,7 +129,8 @@ impl<'a> Course<'a> {
 
     // Whether some account acted as holds a right.
     pub fn some_holds(&mut self, n: u8, right: Right) -> bool
-        ensures { Decides result ((v : ℕ) × (v ∈ (state_in self.old).acted) × Holds self.old.lists (state_in self.old) v n right) }
+        ensures same { self.new ≡ self.old }
+        ensures told { Decides result ((v : ℕ) × (v ∈ (state_in self.old).acted) × Holds self.old.lists (state_in self.old) v n right) }
     {
         // The invariant of a run, which this opens, says that whoever is acted as has a number below 96.
         let _ = &self.model;
@@ -142,18 +151,19 @@ impl<'a> Course<'a> {
         self.opens(step)
             && Actor {
                 model: self.model,
-                rows: self.rows(doer(step)),
+                rows: &self.rows(doer(step)),
             }
             .fits(step)
     }
 
     // Adds a step.
-    #[tactic(auto, using(crate::proofs::Smalls::after_small))]
+    #[tactic(auto, using(fitting::proofs::Smalls::after_small))]
     pub fn add(&mut self, step: Step)
         requires allowed { Allowed self.old.lists (state_in self.old) step }
         requires room { Filled self.old.came 4095 }
         ensures lists { self.new.lists ≡ self.old.lists }
         ensures state { state_in self.new ≡ after (state_in self.old) step }
+        ensures steps { self.new.came.steps.items ≡ self.old.came.steps.items ++ step ∷ [] }
         ensures few { (n : ℕ) → Filled self.old.came n → Filled self.new.came (n + 1) }
     {
         self.seen = kept_over(self.seen, step);

@@ -2,11 +2,11 @@
 #![tactic(auto)]
 
 mod courses;
-mod fitting;
 mod laws;
 mod questions;
 mod replays;
-mod standing;
 
+pub use courses::Course;
 pub use laws::laws_stand;
+pub use questions::{Question, Sense, judge_question};
 pub use replays::replay;

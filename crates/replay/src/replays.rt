@@ -36,9 +36,10 @@ impl Course<'_> {
 
     // Whether the right that is asked for stands.
     // Kept: that an account is below 96 is a clause; a type for such numbers would reach into every step.
-    fn answers(&mut self, question: &Question) -> bool
+    pub fn answers(&mut self, question: &Question) -> bool
         requires opener { question.now.account < 96 }
-        ensures { Decides result (HeldBy self.old.lists (state_in self.old) question.now.account (sense_number question.now.sense) question.now.entity question.now.right) }
+        ensures same { self.new ≡ self.old }
+        ensures told { Decides result (HeldBy self.old.lists (state_in self.old) question.now.account (sense_number question.now.sense) question.now.entity question.now.right) }
     {
         match question.sense {
             Sense::Use => self.some_holds(question.entity, question.right),

@@ -1,14 +1,13 @@
 // Who does a step, and whether that account is acted as, or the pair entered.
 ghost use Rattle.std.specs.Prelude.{◌≡◌, Decides};
 ghost use Rattle.access.specs.Lists.{◌∈◌};
-ghost use Rattle.runs.specs.Runs.{LineStands};
-ghost use Rattle.replay.specs.Fits.{doer_of, Opens};
+ghost use Rattle.runs.specs.Runs.{doer_of, LineStands};
+ghost use Rattle.fitting.specs.Fits.{Opens};
 ghost use Rattle.replay.specs.Situations.{state_in};
 
 use crate::courses::Course;
 use access::{Line, is_in};
-use runs::{Entry, Step};
-use session::worker;
+use runs::{Entry, Step, worker};
 
 // The account that does a step.
 pub fn doer(step: Step) -> u8
@@ -24,7 +23,7 @@ pub fn doer(step: Step) -> u8
     }
 }
 
-#[tactic(auto, using(crate::proofs::Finding::listed))]
+#[tactic(auto, using(fitting::proofs::Finding::listed))]
 impl Course<'_> {
     // Whether an account is acted as.
     pub fn acts(&self, account: u8) -> bool

@@ -11,10 +11,10 @@ pub returns-then-answers : goal.returns-then-answers
 returns-then-answers c =
     let o = c.open-course.ensures in
     let run = rw (o.state, o.lists) at c.in_default.ensures.outcome in
-    accepted (comes_to _ _ run (c.play.ensures.lists ∙ o.lists) _ (c.answers.ensures.0 c.if-answers.true))
+    accepted (comes_to _ _ run (c.play.ensures.lists ∙ o.lists) _ (c.answers.ensures.told.0 c.if-answers.true))
 
 pub returns-else-answers : goal.returns-else-answers
 returns-else-answers c =
     let o = c.open-course.ensures in
     let run = rw (o.state, o.lists) at c.in_default.ensures.outcome in
-    missing run (λ q. not_from_Decides _ c.answers.ensures c.if-answers.false (comes_from _ _ run (c.play.ensures.lists ∙ o.lists) _ q))
+    missing run (λ q. not_from_Decides _ c.answers.ensures.told c.if-answers.false (comes_from _ _ run (c.play.ensures.lists ∙ o.lists) _ q))

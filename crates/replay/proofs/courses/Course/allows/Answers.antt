@@ -1,5 +1,5 @@
-use Rattle.replay.proofs.Smalls.{doer_small}
-use Rattle.replay.proofs.Allowing.{allowed_told}
+use Rattle.fitting.proofs.Smalls.{doer_small}
+use Rattle.fitting.proofs.Allowing.{allowed_told}
 use Rattle.replay.proofs.courses.Course.allows.Goals as goal
 
 pub rows-requires : goal.rows-requires

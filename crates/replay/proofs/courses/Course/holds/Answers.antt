@@ -1,4 +1,4 @@
-use Rattle.replay.proofs.Allowing.{holds_told}
+use Rattle.fitting.proofs.Allowing.{holds_told}
 use Rattle.replay.proofs.courses.Course.holds.Goals as goal
 
 pub returns-clause-told : goal.returns-clause-told

@@ -1,6 +1,6 @@
 use Rattle.session.specs.Models.{lists_of}
 use Rattle.session.proofs.Readiness.{ready}
-use Rattle.replay.proofs.Smalls.{start_small}
+use Rattle.fitting.proofs.Smalls.{start_small}
 use Rattle.replay.proofs.courses.Course.open.Goals as goal
 
 pub invariant_of-result : goal.invariant_of-result

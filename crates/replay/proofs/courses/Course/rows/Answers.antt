@@ -1,7 +1,7 @@
 use Rattle.session.specs.Models.{lists_of}
 use Rattle.session.specs.Reached.{state_of}
 use Rattle.session.specs.Rowed.{Rowed}
-use Rattle.replay.proofs.Allowing.{recorded}
+use Rattle.fitting.proofs.Allowing.{recorded}
 use Rattle.replay.proofs.courses.Course.rows.Goals as goal
 
 told : (c : goal.After-self-1) → let L = lists_of c.self.inside.model.now in Rowed L (state_of L c.self.inside.state.now) c.args.account c.rows-rows.result.holds.sets c.rows-rows.result.grants.sets

@@ -4,7 +4,7 @@ ghost use Rattle.access.specs.declared.rights.Right.TheVariants.{Alter as ToAlte
 ghost use Rattle.access.specs.Places.{place_of};
 ghost use Rattle.runs.specs.Standing.{IsObject, Proper, entry_right};
 ghost use Rattle.session.specs.Models.{lists_of};
-ghost use Rattle.replay.specs.Fits.{Tells, Enters, LendsBy, DoesBy, Fits};
+ghost use Rattle.fitting.specs.Fits.{Tells, Enters, LendsBy, DoesBy, Fits};
 
 use crate::standing::{is_kind, is_object, is_proper, one_owner};
 use access::{Action, Kind, Line, Object, Right, Runner};
@@ -33,35 +33,35 @@ fn entry_right(x: Object) -> Right
 #[derive(Drop)]
 pub struct Actor<'a> {
     pub model: &'a Model,
-    pub rows: Rows,
+    pub rows: &'a Rows,
 }
 
 impl<'a> std::marker::Model for Actor<'a> {
     ghost use Rattle.session.specs.Models.{lists_of};
-    ghost use Rattle.replay.specs.Fits.{Powers};
+    ghost use Rattle.fitting.specs.Fits.{Powers};
 
     ghost Value = { Powers };
 
-    ghost view = { λ a. record { lists = lists_of a.model.now; holds = a.rows.holds.sets; grants = a.rows.grants.sets } };
+    ghost view = { λ a. record { lists = lists_of a.model.now; holds = a.rows.now.holds.sets; grants = a.rows.now.grants.sets } };
 }
 
 impl Actor<'_> {
     // Whether the account holds a right.
-    fn holds(&self, n: u8, right: Right) -> bool
+    pub fn holds(&self, n: u8, right: Right) -> bool
         ensures { Decides result (Tells self.now.holds n right) }
     {
         tells(&self.rows.holds, n, right)
     }
 
     // Whether the account may grant a right.
-    fn grants(&self, n: u8, right: Right) -> bool
+    pub fn grants(&self, n: u8, right: Right) -> bool
         ensures { Decides result (Tells self.now.grants n right) }
     {
         tells(&self.rows.grants, n, right)
     }
 
     // Whether the account may enter an object.
-    fn enters(&self, x: Object) -> bool
+    pub fn enters(&self, x: Object) -> bool
         ensures { Decides result (Enters self.now.holds x) }
     {
         self.holds(x.place(), entry_right(x))
@@ -90,7 +90,7 @@ impl Actor<'_> {
     }
 
     // Whether the account may plant a line.
-    fn plants(&self, line: Line) -> bool
+    pub fn plants(&self, line: Line) -> bool
         ensures { Decides result (IsObject self.now.lists line.object × Tells self.now.holds (place_of line.object) ToAlter × LendsBy self.now.lists self.now.holds self.now.grants line.runner × Proper self.now.lists line.action) }
     {
         is_object(self.model, line.object)

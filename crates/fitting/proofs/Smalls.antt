@@ -2,6 +2,7 @@
 use Rattle.std.proofs.Common.{ℕ, ◌<◌, List, ◌∷◌, sym, subst, arith}
 use mathlib.Core.List.Memᴰ
 use Rattle.access.specs.declared.entities.Kind.{Kind}
+use Rattle.access.specs.declared.entities.Kind.TheVariants.{Account}
 use Rattle.access.specs.declared.code.Runner.{Runner}
 use Rattle.access.specs.declared.code.Action.{Action}
 use Rattle.access.specs.declared.code.Action.TheVariants as action
@@ -13,10 +14,10 @@ use Rattle.runs.specs.declared.steps.Step.{Step}
 use Rattle.runs.specs.declared.steps.Step.TheVariants.{Switch, Grant, Join, Plant, Call, Follow}
 use Rattle.runs.specs.Standing.{Is, Stands, Proper, a_call, a_grant, a_join}
 use Rattle.runs.specs.States.{State, start, pair, done}
-use Rattle.runs.specs.Runs.{worker, Lends, the_caller, an_account, LineStands, in_catalogue, planted, Allowed, switch, grant, join, plant, call, follow, after}
+use Rattle.runs.specs.Runs.{worker, doer_of, Lends, the_caller, an_account, LineStands, in_catalogue, planted, Allowed, switch, grant, join, plant, call, follow, after, Run, ends, goes}
 use Rattle.runs.proofs.Grounds.{is_stands, few, runners, IsRunner, calls, IsCall}
-use Rattle.replay.specs.Fits.{Opens, doer_of}
-use Rattle.replay.specs.Good.{Small, SmallLine, GrantsSmall}
+use Rattle.fitting.specs.Fits.{Opens}
+use Rattle.fitting.specs.Smalls.{Small, SmallLine, GrantsSmall}
 
 -- what holds of each element holds of each with one more of which it holds
 in_more : {A : Type 0} (P : A → Type 0) (y : A) {xs : List A} → P y → ((x : A) → x ∈ xs → P x) → (x : A) → x ∈ (y ∷ xs) → P x
@@ -82,3 +83,11 @@ start_small L a h = record {
   entered = λ n m. elim m [ ];
   planted = λ l m. elim m [ ];
 }
+
+pub run_small : {L : Lists} → Sound L → {S T : State} {ss : List Step} → Small S → Run L S ss T → Small T
+run_small s g ends = g
+run_small s g (goes h r) = run_small s (after_small s g h) r
+
+-- the accounts of a state that a session of an account comes to have numbers below 96
+pub opened_small : {L : Lists} → Sound L → {a : ℕ} {S : State} {ss : List Step} → Is L Account a → Run L (start L a) ss S → Small S
+opened_small {L} s {a} i r = run_small s (start_small L a (is_small s i)) r

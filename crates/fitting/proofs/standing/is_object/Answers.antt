@@ -1,7 +1,7 @@
 use Rattle.std.proofs.lemmas.Bool.Decides.{Decides-like}
 use Rattle.runs.specs.Standing.{a_procedure, a_trigger}
-use Rattle.replay.proofs.Deciding.{procedure_from, trigger_from, created_to, created_from}
-use Rattle.replay.proofs.standing.is_object.Goals as goal
+use Rattle.fitting.proofs.Deciding.{procedure_from, trigger_from, created_to, created_from}
+use Rattle.fitting.proofs.standing.is_object.Goals as goal
 
 pub returns-in-Procedure : goal.returns-in-Procedure
 returns-in-Procedure c = rw c.in-Procedure.is (Decides-like _ a_procedure procedure_from c.is_kind.ensures)

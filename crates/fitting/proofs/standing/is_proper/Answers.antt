@@ -1,7 +1,7 @@
 use Rattle.std.proofs.lemmas.Bool.Decides.{Decides-like}
 use Rattle.runs.specs.Standing.{a_call, a_grant, a_join}
-use Rattle.replay.proofs.Deciding.{call_from, grant_from, join_from}
-use Rattle.replay.proofs.standing.is_proper.Goals as goal
+use Rattle.fitting.proofs.Deciding.{call_from, grant_from, join_from}
+use Rattle.fitting.proofs.standing.is_proper.Goals as goal
 
 pub returns-in-Call : goal.returns-in-Call
 returns-in-Call c = rw c.in-Call.is (Decides-like _ a_call call_from c.is_object.ensures)

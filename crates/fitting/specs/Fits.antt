@@ -17,16 +17,8 @@ use Rattle.runs.specs.declared.steps.Step.{Step}
 use Rattle.runs.specs.declared.steps.Step.TheVariants.{Switch, Grant, Join, Plant, Call, Follow}
 use Rattle.runs.specs.Standing.{Is, IsObject, OneOwner, Proper, entry_right}
 use Rattle.runs.specs.States.{State, pair}
-use Rattle.runs.specs.Runs.{worker, LineStands}
-
--- the account that does a step
-abbrev pub doer_of : Step → ℕ
-doer_of (Switch a v) = a
-doer_of (Grant a g) = a
-doer_of (Join a m) = a
-doer_of (Plant a l) = a
-doer_of (Call a x) = a
-doer_of (Follow v l) = worker l.runner v
+use Rattle.runs.specs.Rights.{Holds, MayGrant}
+use Rattle.runs.specs.Runs.{LineStands}
 
 -- the account is acted as; for a follow, the pair is entered and the line stands
 module _ (L : Lists) (S : State) where
@@ -50,6 +42,11 @@ Tells row e r = (e < 96) × (told row e (right_number r) ≡ true)
 
 abbrev pub Enters : List RightSet → Object → Type 0
 Enters held x = Tells held (place_of x) (entry_right x)
+
+-- what the rows tell of account a is so in the state
+pub record Backed (L : Lists) (S : State) (a : ℕ) (held granted : List RightSet) : Type 0 where
+  pub holds : (e : ℕ) (r : Right) → Tells held e r → Holds L S a e r
+  pub grants : (e : ℕ) (r : Right) → Tells granted e r → MayGrant L S a e r
 
 -- what else a step asks, of the rows of the account that does it
 module _ (L : Lists) (held granted : List RightSet) where

@@ -1,0 +1,4 @@
+pub mod Finding
+pub mod Deciding
+pub mod Smalls
+pub mod Allowing
