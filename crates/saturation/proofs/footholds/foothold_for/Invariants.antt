@@ -1,0 +1,10 @@
+use Rattle.std.proofs.Common.{◌≡◌, ℕ, ◌<◌}
+use Rattle.access.specs.Places.{place_of}
+use Rattle.runs.specs.declared.steps.Entry.{Entry}
+use Rattle.session.specs.Reached.{state_of}
+use Rattle.saturation.specs.Progress.{Foothold}
+use Rattle.saturation.proofs.footholds.foothold_for.Given as goal
+
+-- no entity before e has one
+abbrev pub invariant-loop-e : goal.invariant-loop-e
+invariant-loop-e l = (d : ℕ) → d < l.e → (n : Entry) → place_of n.object ≡ d → Foothold l.actor (state_of l.actor.lists l.state) l.object n → ⊥

@@ -1,0 +1,28 @@
+use Rattle.std.proofs.Common.{arith}
+use Rattle.access.specs.Numbers.{rights}
+use Rattle.runs.specs.Turns.{Tried}
+use Rattle.saturation.proofs.Going.{grown_same, grown_trans}
+use Rattle.saturation.proofs.Staying.{serves_more, adds_later, adds_before}
+use Rattle.saturation.proofs.Turning.{taken_more, all_taken, right_there}
+use Rattle.saturation.proofs.stepping.grants_on.Goals as goal
+
+pub attempt-requires-clause-serves : goal.attempt-requires-clause-serves
+attempt-requires-clause-serves c = serves_more c.requires c.loop-right.invariant.grown
+
+pub attempt-requires-clause-tried : goal.attempt-requires-clause-tried
+attempt-requires-clause-tried c = Tried.grant
+
+pub loop-right-preserved : goal.loop-right-preserved
+loop-right-preserved c =
+    let h = c.loop-right.invariant in
+    let e = c.attempt.ensures in
+    record {
+      grown = grown_trans h.grown e.grown;
+      added = taken_more _ _ _ _ c.loop-right-test.true (λ r m. adds_later e.grown.part (h.added r m)) (adds_before h.grown.part e.added);
+    }
+
+pub loop-right-init : goal.loop-right-init
+loop-right-init c = record { grown = grown_same c.requires.goes; added = λ r m. elim m [ ] }
+
+pub returns-clause-added : goal.returns-clause-added
+returns-clause-added c r = all_taken _ rights _ (omega (arith, c.loop-right-test.false)) c.loop-right.invariant.added r (right_there r)
