@@ -1,0 +1,4 @@
+pub mod Judged
+pub mod Used
+pub mod Laws
+pub mod Pairs
