@@ -1,0 +1,4 @@
+pub mod Playing
+pub mod Trying
+pub mod Acting
+pub mod Giving

@@ -1,0 +1,3 @@
+pub mod Plays
+pub mod Spares
+pub mod Witnesses
