@@ -41,7 +41,7 @@ fn fill_row(model: &Model, state: &mut RunState, account: u8, room: &mut [u8])
 }
 
 // The row of an account of a loaded catalogue.
-fn row_of(model: &Model, state: &mut RunState, account: u8) -> [u8; WIDTH]
+pub fn row_of(model: &Model, state: &mut RunState, account: u8) -> [u8; WIDTH]
     requires { Is (lists_of model.now) Account account }
     ensures { IsRow (lists_of model.now) account result }
 {
