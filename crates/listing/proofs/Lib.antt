@@ -1,0 +1,5 @@
+pub mod Counting
+pub mod Putting
+pub mod Accounts
+pub mod Lining
+pub mod Exposing

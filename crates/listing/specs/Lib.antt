@@ -1,0 +1,4 @@
+pub mod Exposures
+pub mod Puts
+pub mod Listings
+pub mod Laws
