@@ -5,8 +5,6 @@ use Rattle.access.specs.Lists.{Lists}
 use Rattle.runs.specs.declared.steps.Step.{Step}
 use Rattle.runs.specs.States.{State}
 use Rattle.runs.specs.Runs.{Allowed, after, Run, ends, goes}
-use Rattle.session.specs.declared.states.RunState.{RunState}
-use Rattle.session.specs.Reached.{Filled}
 use Rattle.replay.specs.Situations.{Situation, state_in}
 use Rattle.witness.specs.Plays.{Plays, Played}
 
@@ -68,9 +66,3 @@ played_then {a} {b} {c} {rs = rs} p q = record {
 pub played_more : {a b c : Situation} (steps : List Step) (i : ℕ) (d : Step) → i < length steps → Played a (take i steps) b
     → Played b (get_or steps i d ∷ []) c → Played a (take (i + 1) steps) c
 played_more steps i d h p q = rw (take_more steps i d h) (played_then p q)
-
-pub filled_more : (s : RunState) (n m : ℕ) → n ≤ m → Filled s n → Filled s m
-filled_more s n m h f = record {
-  kept = record { acted = omega (arith, f.kept.acted); grants = omega (arith, f.kept.grants); joins = omega (arith, f.kept.joins); planted = omega (arith, f.kept.planted); entered = omega (arith, f.kept.entered) };
-  steps = omega (arith, f.steps);
-}
