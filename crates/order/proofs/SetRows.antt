@@ -1,12 +1,14 @@
 -- Laws of rows of sets of rights.
-use Rattle.std.proofs.Common.{◌≡◌, ℕ, zero, suc, ◌<◌, Bool, true, false, ◌&&◌, ◌||◌, eqb, ltb, List, [], ◌∷◌, length, get_or, set, replicate, sym, refl, ap, lit<, ◌∙◌, ⊎_elim, arith}
+use Rattle.std.proofs.Common.{◌≡◌, ℕ, zero, suc, ◌+◌, ◌*◌, ◌%◌, ◌^◌, ◌<◌, add-one, Bool, true, false, ◌&&◌, ◌||◌, eqb, ltb, List, [], ◌∷◌, length, get_or, set, replicate, sym, refl, ap, lit<, ◌∙◌, ⊎_elim, arith}
 use mathlib.Core.Bool.{or-false}
 use Rattle.std.proofs.lemmas.List.{get_or-set_same, get_or-set_other}
-use Rattle.std.proofs.lemmas.Bool.{cases_eq, eq-eqb, ne_eqb, lt-ltb, and_from, both_ways}
+use Rattle.std.proofs.lemmas.Bool.{cases_eq, eq-eqb, ne_eqb, lt-ltb, and_from, both_ways, or_left, or_right}
+use Rattle.std.proofs.lemmas.Nat.{pow_below}
+use native.Mathlib.Nat.{two-pow-succ, mod-eq_of_lt}
 use Rattle.access.specs.Bits.{bit}
 use Rattle.access.specs.Sets.{told}
 use Rattle.access.specs.declared.sets.RightSet.{RightSet}
-use Rattle.access.proofs.SetLaws.{bit_zero}
+use Rattle.access.proofs.SetLaws.{bit_zero, byte_get_or}
 
 -- the set that is read at x, which is empty past the end
 pub told_read : (ss : List RightSet) (x k : ℕ) (d : RightSet) → bit d.bits k ≡ false → bit (get_or ss x d).bits k ≡ told ss x k
@@ -44,3 +46,31 @@ told_set ss n x s more h l f y k =
     (λ ne. ap (λ (t : RightSet). bit t.bits k) (get_or-set_other ss x y s empty ne) ∙ sym (told_at ss y k) ∙ sym (or-false (told ss y k))
     ∙ ap (λ b. told ss y k || ((b && ltb x n) && more k)) (sym (ne_eqb y x ne)))
     (cases_eq y x)
+
+-- each place below n that has some right is among the bits
+abbrev pub PlacesBelow : List RightSet → ℕ → ℕ → Type 0
+PlacesBelow ss n places = (x k : ℕ) → x < n → told ss x k ≡ true → bit places x ≡ true
+
+module _ (ss : List RightSet) (n places : ℕ) (done : PlacesBelow ss n places) where
+  -- the place n is put in
+  pub place_more : (next : ℕ) → ((y : ℕ) → bit next y ≡ (bit places y || eqb y n)) → PlacesBelow ss (n + 1) next
+  place_more next e x k h t =
+      ⊎_elim (λ (q : x ≡ n). e x ∙ or_right (bit places x) _ (eq-eqb x n q))
+      (λ ne. e x ∙ or_left (bit places x) _ (done x k (omega arith) t))
+      (cases_eq x n)
+
+  -- the set at the place n is empty
+  pub place_none : (d : RightSet) → n < length ss → (get_or ss n d).bits ≡ 0 → PlacesBelow ss (n + 1) places
+  place_none d l z x k h t =
+      ⊎_elim
+      (λ (q : x ≡ n).
+      absurd (both_ways _ (bit_zero k)
+      (ap (λ (b : ℕ). bit b k) (sym z ∙ sym (byte_get_or ss n d l)) ∙ ap (λ (y : ℕ). told ss y k) (sym q) ∙ t)))
+      (λ ne. done x k (omega arith) t)
+      (cases_eq x n)
+
+-- the bit of the next place
+pub place_next : (place x : ℕ) → place ≡ 2 ^ x → x < 96 → place * 2 ^ 1 % 2 ^ 128 ≡ 2 ^ (x + 1)
+place_next place x e h =
+    let twice : place * 2 ^ 1 ≡ 2 ^ (x + 1) = let p = two-pow-succ x in rw add-one (omega arith) in
+    ap (λ (m : ℕ). m % 2 ^ 128) twice ∙ mod-eq_of_lt (pow_below (x + 1) 128 (omega arith))

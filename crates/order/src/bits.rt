@@ -20,7 +20,7 @@ impl Iterator for Bits {
             return None;
         }
         let lowest = self.0.trailing_zeros();
-        self.0 &= !(1 << lowest);
+        self.0 &= self.0 - 1;
         Some(lowest as usize)
     }
 }

@@ -1,5 +1,5 @@
 // A set of rights for each entity.
-ghost use Rattle.std.specs.Prelude.{◌≡◌, ℕ, false, ◌&&◌, ◌||◌, ◌==◌, nat_lt};
+ghost use Rattle.std.specs.Prelude.{◌≡◌, ℕ, true, false, ◌&&◌, ◌||◌, ◌==◌, nat_lt};
 ghost use Rattle.access.specs.Bits.{bit};
 ghost use Rattle.access.specs.Sets.{told};
 
@@ -26,6 +26,21 @@ impl Row {
         ensures { (k : ℕ) → bit result.bits k ≡ told self.now.sets x k }
     {
         self.sets.get(x).copied().unwrap_or(RightSet::empty())
+    }
+
+    // The places that have some right, as bits.
+    pub fn places(&self) -> u128
+        ensures { (x k : ℕ) → told self.now.sets x k ≡ true → bit result x ≡ true }
+    {
+        let mut places = 0;
+        let mut place = 1;
+        for set in &self.sets {
+            if u8::from(*set) != 0 {
+                places |= place;
+            }
+            place <<= 1;
+        }
+        places
     }
 
     // Adds the rights of `more` at x; past the end nothing changes.
