@@ -1,5 +1,6 @@
 // Tables of bits.
 ghost use Rattle.std.specs.Prelude.{◌≡◌, ℕ, ◌<◌, true, false, ◌&&◌, ◌||◌, ◌==◌};
+ghost use Rattle.access.specs.Bits.{bit};
 ghost use Rattle.lookup.specs.Grids.{noted};
 
 // N rows of 128 bits.
@@ -20,15 +21,15 @@ impl<const N: usize> Grid<N> {
     pub fn has(&self, x: usize, y: u8) -> bool
         ensures { result ≡ noted self.now.rows x y }
     {
-        let row = self.rows.get(x).copied().unwrap_or(0);
+        let row = self.row(x);
         y < 128 && (row >> y) & 1 == 1
     }
 
-    // Whether row x has no bit.
-    pub fn is_clear(&self, x: usize) -> bool
-        ensures { result ≡ true → (y : ℕ) → noted self.now.rows x y ≡ false }
+    // Row x as bits; past the end there are none.
+    pub fn row(&self, x: usize) -> u128
+        ensures { (y : ℕ) → bit result y ≡ noted self.now.rows x y }
     {
-        self.rows.get(x).copied().unwrap_or(0) == 0
+        self.rows.get(x).copied().unwrap_or(0)
     }
 
     // Sets bit y of row x; past the end nothing changes.

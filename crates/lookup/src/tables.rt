@@ -1,7 +1,11 @@
 // What stands in the state of a run, as tables.
 ghost use Rattle.std.specs.Prelude.{◌≡◌, ℕ, ◌<◌, true, Decides};
+ghost use Rattle.access.specs.Bits.{bit};
 ghost use Rattle.access.specs.Lists.{◌∈◌, Lists, public};
+ghost use Rattle.access.specs.declared.rights.Right.{Right};
+ghost use Rattle.access.specs.Numbers.{right_number};
 ghost use Rattle.access.specs.Places.{place_of};
+ghost use Rattle.access.specs.Sets.{told};
 ghost use Rattle.runs.specs.Rights.{right_record};
 ghost use Rattle.runs.specs.Runs.{after};
 ghost use Rattle.runs.specs.States.{State, Part, start, acting, done, pair};
@@ -10,7 +14,7 @@ ghost use Rattle.lookup.specs.Tables.{SmallEntry, SmallMember, SmallAction, Smal
 use crate::ENTITIES;
 use crate::grids::Grid;
 use crate::records::{note_members, note_right, note_rights};
-use access::{Action, Member, Object, Right, RightRecord};
+use access::{Action, Member, Object, Right, RightRecord, RightSet};
 use order::Row;
 use runs::{Entry, Step, worker};
 
@@ -81,6 +85,20 @@ impl Marks {
         self.rights.at(entity as usize).has(right)
     }
 
+    // The rights that everyone is given with the option, on every entity.
+    pub fn given(&self) -> &Row
+        ensures { (S : State) (e : ℕ) (r : Right) → e < 96 → Marked self.now S → Decides (told result.now.sets e (right_number r)) (right_record public e r true ∈ S.rights) }
+    {
+        &self.rights
+    }
+
+    // The rights on an entity that everyone is given with the option.
+    pub fn rights(&self, entity: u8) -> RightSet
+        ensures { (S : State) (r : Right) → entity < 96 → Marked self.now S → Decides (bit result.bits (right_number r)) (right_record public entity r true ∈ S.rights) }
+    {
+        self.rights.at(entity as usize)
+    }
+
     // Whether an account is in a role by a record.
     fn has_member(&self, member: Member) -> bool
         ensures { (S : State) → SmallMember member → Marked self.now S → Decides result (member ∈ S.members) }
@@ -95,11 +113,25 @@ impl Marks {
         self.entries.has(slot(entry.object), entry.account)
     }
 
-    // Whether nobody entered an object.
-    pub fn is_closed(&self, object: Object) -> bool
-        ensures { (S : State) → place_of object < 96 → Marked self.now S → result ≡ true → (v : ℕ) → v < 96 → pair object v ∈ S.entered → ⊥ }
+    // The accounts that are acted as, as bits.
+    pub fn actors(&self) -> u128
+        ensures { (S : State) (v : ℕ) → v < 96 → Marked self.now S → Decides (bit result v) (v ∈ S.acted) }
     {
-        self.entries.is_clear(slot(object))
+        self.accounts.row(0)
+    }
+
+    // The accounts that an object was entered with, as bits.
+    pub fn entrants(&self, object: Object) -> u128
+        ensures { (S : State) (v : ℕ) → SmallEntry (pair object v) → Marked self.now S → Decides (bit result v) (pair object v ∈ S.entered) }
+    {
+        self.entries.row(slot(object))
+    }
+
+    // The accounts that are in a role by a record, as bits.
+    pub fn members(&self, role: u8) -> u128
+        ensures { (S : State) (j : Member) → SmallMember j → j.role ≡ role → Marked self.now S → Decides (bit result j.account) (j ∈ S.members) }
+    {
+        self.members.row(role as usize)
     }
 
     // Whether an account's action adds nothing.

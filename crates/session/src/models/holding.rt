@@ -36,7 +36,7 @@ impl Model {
     }
 
     // Each entity gets the rights that `base` has at it and at what it is in.
-    fn along_places(&self, base: &Row) -> Row
+    pub fn along_places(&self, base: &Row) -> Row
         ensures { Says result.sets (Carried (Within (lists_of self.now).entities) (told base.now.sets) 96) }
     {
         spread(&self.places, base)
