@@ -1,47 +1,30 @@
 // What books write reads again, and each damage is found where it is first.
 use crate::samples::{DAMAGES, MIXED, PAIRS};
 use access::{Member, Refusal};
-use book::{Book, Call, apply};
+use book::Book;
 use catalogue::{Catalogue, ListName};
-use examples::{declare, grant, join, line, link, procedure, triggers};
+use examples::{build, declare, grant, join, line, link, pair_calls, procedure, triggers};
 use image::{read, write};
 use std::process::Abort;
 use std::test::Fail;
 
-fn book_of(rt: &impl AllocGlobal, calls: &[Call]) -> Result<Book, Fail> {
-    let mut book = Book::new(rt.alloc())?;
-    for call in calls {
-        apply(&mut book, *call)?;
-    }
-    Ok(book)
-}
-
-fn pairs(rt: &impl AllocGlobal) -> Result<Book, Fail> {
-    book_of(
-        rt,
-        &[declare(3, 0, 3, 0), declare(3, 0, 4, 0), grant(3, 4, 6, 0)],
-    )
-}
-
 fn mixed(rt: &impl AllocGlobal) -> Result<Book, Fail> {
-    book_of(
-        rt,
-        &[
-            declare(3, 0, 3, 0),
-            declare(4, 0, 3, 0),
-            declare(0, 0, 3, 1),
-            declare(1, 5, 3, 0),
-            declare(2, 5, 3, 0),
-            link(1, 4),
-            link(4, 2),
-            grant(4, 6, 1, 1),
-            grant(3, 7, 5, 0),
-            join(3, 4),
-            join(3, 1),
-            line(procedure(7), 255, triggers(6, 1)),
-            line(triggers(6, 3), 3, procedure(7)),
-        ],
-    )
+    let calls = [
+        declare(3, 0, 3, 0),
+        declare(4, 0, 3, 0),
+        declare(0, 0, 3, 1),
+        declare(1, 5, 3, 0),
+        declare(2, 5, 3, 0),
+        link(1, 4),
+        link(4, 2),
+        grant(4, 6, 1, 1),
+        grant(3, 7, 5, 0),
+        join(3, 4),
+        join(3, 1),
+        line(procedure(7), 255, triggers(6, 1)),
+        line(triggers(6, 3), 3, procedure(7)),
+    ];
+    Ok(build(rt.alloc(), &calls)??)
 }
 
 // A book writes these bytes and no others, and leaves a room that is too small as it is.
@@ -58,7 +41,7 @@ fn writes(rt: &impl Abort, book: &Book, bytes: &[u8]) {
 
 #[test]
 fn the_two_accounts_are_written(rt: HostRuntime) -> Result<(), Fail> {
-    writes(&rt, &pairs(&rt)?, &PAIRS);
+    writes(&rt, &build(rt.alloc(), &pair_calls())??, &PAIRS);
     Ok(())
 }
 

@@ -15,9 +15,9 @@ use Rattle.layer.specs.Proposals.{Reply, proposed_right, proposed_member, withdr
 use Rattle.layer.specs.Stands.{Stand, meant, new_stand}
 
 -- what a response says: a number or a refusal, or whether there was a proposal to take back
-abbrev pub told : Response → Result ℕ Code ⊎ Bool
-told (response.Answered answer) = inl (coded answer)
-told (response.Withdrawn had) = inr had
+abbrev pub said : Response → Result ℕ Code ⊎ Bool
+said (response.Answered answer) = inl (coded answer)
+said (response.Withdrawn had) = inr had
 
 -- what a change returned, and what the layer and the book hold after it
 pub record Effect : Type 0 where
@@ -45,6 +45,6 @@ abbrev pub stand_after : List Change → Stand
 stand_after changes = fold (λ s c. (changed s c).stand) new_stand changes
 
 -- what stands is what the changes put together, and its meaning is sound
-pub record Holds (stand : Stand) (changes : List Change) : Type 0 where
+pub record Gathered (stand : Stand) (changes : List Change) : Type 0 where
   pub gathered : stand ≡ stand_after changes
   pub sound : Sound (meant stand)

@@ -2,7 +2,7 @@
 ghost use Rattle.std.specs.Prelude.{◌≡◌};
 ghost use Rattle.catalogue.specs.Sound.{Sound};
 ghost use Rattle.layer.specs.Stands.{stand_of, meant};
-ghost use Rattle.layer.specs.Changes.{changed, stand_after, told, Holds};
+ghost use Rattle.layer.specs.Changes.{changed, stand_after, said, Gathered};
 
 use crate::layers::Layer;
 use access::{Member, Refusal, RightNumbers};
@@ -26,7 +26,7 @@ pub enum Response {
 // Makes one change, and returns what it returned.
 pub fn apply(layer: &mut Layer<Book>, change: Change) -> Response
     requires { Sound (meant (stand_of layer.old)) }
-    ensures response { told result ≡ (changed (stand_of layer.old) change).response }
+    ensures response { said result ≡ (changed (stand_of layer.old) change).response }
     ensures stand { stand_of layer.new ≡ (changed (stand_of layer.old) change).stand }
     ensures sound { Sound (meant (stand_of layer.new)) }
 {
@@ -44,9 +44,9 @@ impl Gathers for Layer<Book> {
 
     type Answer = Response;
 
-    ghost holds = { λ layer changes. Holds (stand_of layer) changes };
+    ghost holds = { λ layer changes. Gathered (stand_of layer) changes };
 
-    ghost returns = { λ before change response. told response ≡ (changed (stand_after before) change).response };
+    ghost returns = { λ before change response. said response ≡ (changed (stand_after before) change).response };
 
     fn renew(&mut self) {
         self.clear();

@@ -17,7 +17,7 @@ impl fmt::Display for Response {
     fn fmt<W: fmt::Write>(&self, f: &mut fmt::Formatter<W>) -> fmt::Result {
         match self {
             Response::Answered(Ok(number)) => write!(f, "number {number}"),
-            Response::Answered(Err(refusal)) => write!(f, "declined: {refusal}"),
+            Response::Answered(Err(refusal)) => write!(f, "refused: {refusal}"),
             Response::Withdrawn(true) => f.write_str("the latest proposal is taken back"),
             Response::Withdrawn(false) => f.write_str("there is no proposal"),
         }
