@@ -27,10 +27,10 @@ module _ {S : State} where
   pub enters_already : {y : Object} {w : ℕ} → pair y w ∈ S.entered → Part (done S w (action.Call y)) S
   enters_already m = record { acted = λ x n. n; rights = λ x n. n; members = λ x n. n; planted = λ x n. n; entered = in_sub m }
 
-  grants_already : {g : RightRecord} (w : ℕ) → g ∈ S.rights → Part (done S w (action.Grant g)) S
+  pub grants_already : {g : RightRecord} (w : ℕ) → g ∈ S.rights → Part (done S w (action.Grant g)) S
   grants_already w m = record { acted = λ x n. n; rights = in_sub m; members = λ x n. n; planted = λ x n. n; entered = λ x n. n }
 
-  joins_already : {j : Member} (w : ℕ) → j ∈ S.members → Part (done S w (action.Join j)) S
+  pub joins_already : {j : Member} (w : ℕ) → j ∈ S.members → Part (done S w (action.Join j)) S
   joins_already w m = record { acted = λ x n. n; rights = λ x n. n; members = in_sub m; planted = λ x n. n; entered = λ x n. n }
 
 -- one thing more, which was not there

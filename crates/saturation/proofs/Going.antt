@@ -10,8 +10,10 @@ use Rattle.runs.proofs.Growing.{part_same, part_trans, after_grows, run_then}
 use Rattle.lookup.specs.Tables.{SmallStep, Marked}
 use Rattle.session.specs.Reached.{state_of, Filled}
 use Rattle.session.specs.declared.states.RunState.{RunState}
+use Rattle.saturation.specs.Kept.{Onward}
 use Rattle.saturation.specs.Progress.{no_lists, steps_of, gained, Few, Ran, Goes, Grown}
 use Rattle.saturation.proofs.Standing.{gained_rights, gained_members, peopled, step_small}
+use Rattle.saturation.proofs.Onwards.{onward_same, onward_trans, onward_after}
 use Rattle.saturation.proofs.Gaining.{Beside, step_once}
 
 -- what committing a step does
@@ -28,6 +30,9 @@ longer {s} {step = step} c = ap length c.steps ∙ length-append (steps_of s) (s
 pub part_on : (L : Lists) {s t : RunState} {step : Step} → Committed s t step → Part (state_of L s) (state_of L t)
 part_on L {s} {t} {step} c = rw (c.state L) (after_grows (state_of L s) step)
 
+pub onward_on : (L : Lists) {s t : RunState} {step : Step} → Committed s t step → Onward (state_of L s) (state_of L t)
+onward_on L {s} {t} {step} c = rw (c.state L) (onward_after (state_of L s) step)
+
 pub beside : (L : Lists) (s : RunState) → Beside (gained s) (state_of L s)
 beside L s = record { acted = refl; entered = refl; rights = gained_rights L s; members = gained_members L s }
 
@@ -42,13 +47,14 @@ module _ {L : Lists} where
   }
 
   pub grown_same : {s : RunState} → Goes L s → Grown L s s
-  grown_same {s} g = record { goes = g; opener = refl; part = part_same (state_of L s); steps = omega arith; quiet = λ e. refl }
+  grown_same {s} g = record { goes = g; opener = refl; part = part_same (state_of L s); onward = onward_same (state_of L s); steps = omega arith; quiet = λ e. refl }
 
   pub grown_trans : {s t u : RunState} → Grown L s t → Grown L t u → Grown L s u
   grown_trans {s} {t} {u} p q = record {
     goes = q.goes;
     opener = q.opener ∙ p.opener;
     part = part_trans p.part q.part;
+    onward = onward_trans p.onward q.onward;
     steps = omega (arith, p.steps, q.steps);
     quiet = λ e. q.quiet (omega (arith, p.steps, q.steps, e)) ∙ p.quiet (omega (arith, p.steps, q.steps, e));
   }
@@ -67,6 +73,7 @@ module _ {L : Lists} where
         };
         opener = c.opener;
         part = part_on L c;
+        onward = onward_on L c;
         steps = omega (arith, longer c);
         quiet = λ e. absurd (omega (arith, longer c, e));
       }

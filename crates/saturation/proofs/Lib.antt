@@ -1,7 +1,12 @@
+pub mod Everyone
+pub mod Followed
+pub mod Onwards
 pub mod Standing
 pub mod Gaining
 pub mod Going
 pub mod Staying
 pub mod Planted
 pub mod Turning
+pub mod Bitwise
+pub mod Owners
 pub mod Sweeps

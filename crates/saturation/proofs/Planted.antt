@@ -25,7 +25,8 @@ use Rattle.session.specs.declared.states.RunState.{RunState}
 use Rattle.saturation.specs.Progress.{no_lists, steps_of, gained, Once, Few, Ran, Goes, Grown}
 use Rattle.saturation.proofs.Standing.{gained_rights, object_small, peopled}
 use Rattle.saturation.proofs.Gaining.{once_acting, once_planting, once_granting, once_entering}
-use Rattle.saturation.proofs.Going.{Committed, longer, ran_on, part_on}
+use Rattle.saturation.proofs.Onwards.{onward_trans}
+use Rattle.saturation.proofs.Going.{Committed, longer, ran_on, part_on, onward_on}
 
 -- in the line whoever entered the object lets everyone impersonate it
 abbrev pub granting : Object → ℕ → Line
@@ -87,6 +88,7 @@ module _ {L : Lists} {s : RunState} (g : Goes L s) {a : ℕ} {x : Object} {v : �
       goes = record { ran = taken_ran; once = taken_once; few = taken_few };
       opener = e.opener ∙ d.opener ∙ c.opener;
       part = part_trans (part_on L c) (part_trans (part_on L d) (part_on L e));
+      onward = onward_trans (onward_on L c) (onward_trans (onward_on L d) (onward_on L e));
       steps = omega (arith, taken_long);
       quiet = λ q. absurd (omega (arith, taken_long, q));
     }
@@ -119,6 +121,7 @@ module _ {L : Lists} {s : RunState} (g : Goes L s) {a : ℕ} {x : Object} {v : �
       };
       opener = d.opener ∙ c.opener;
       part = part_trans (part_on L c) (part_on L d);
+      onward = onward_trans (onward_on L c) (onward_on L d);
       steps = omega (arith, lent_long);
       quiet = λ q. absurd (omega (arith, lent_long, q));
     }

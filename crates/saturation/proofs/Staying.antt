@@ -1,5 +1,5 @@
 -- What steps add stays, and can be told from an earlier state.
-use Rattle.std.proofs.Common.{ℕ, ◌≤◌, List, length, take, inl, inr, ⊎_elim}
+use Rattle.std.proofs.Common.{◌≡◌, ℕ, ◌≤◌, sym, subst, List, length, take, inl, inr, ⊎_elim}
 use Rattle.std.proofs.lemmas.List.{take_all}
 use Rattle.access.specs.declared.sets.RightSet.{RightSet}
 use Rattle.access.specs.declared.code.Object.{Object}
@@ -8,13 +8,13 @@ use Rattle.access.specs.Lists.{◌∈◌, Lists}
 use Rattle.runs.specs.declared.steps.Step.{Step}
 use Rattle.runs.specs.declared.steps.Step.TheVariants.{Switch, Grant, Join, Plant, Call, Follow}
 use Rattle.runs.specs.declared.steps.Entry.{Entry}
-use Rattle.runs.specs.States.{State, Part}
-use Rattle.runs.specs.Runs.{LineStands, in_catalogue, planted}
+use Rattle.runs.specs.States.{State, Part, pair, done}
+use Rattle.runs.specs.Runs.{LineStands, in_catalogue, planted, follow, MayDo, worker}
 use Rattle.runs.proofs.RightLaws.{holds_more, may_more}
-use Rattle.runs.proofs.Growing.{part_trans, after_more}
+use Rattle.runs.proofs.Growing.{part_trans, after_more, allowed_more}
 use Rattle.session.specs.declared.states.RunState.{RunState}
 use Rattle.fitting.specs.Fits.{Powers, Opens, Backed}
-use Rattle.saturation.specs.Progress.{Grown, Serves, Adds, Taken, Lent, Foothold}
+use Rattle.saturation.specs.Progress.{Grown, Serves, Done, Adds, Taken, Lent, Foothold}
 
 module _ (L : Lists) {S T : State} (p : Part S T) where
   stands_more : {l : Line} → LineStands L S l → LineStands L T l
@@ -31,6 +31,18 @@ module _ (L : Lists) {S T : State} (p : Part S T) where
 
   backed_more : {a : ℕ} {held granted : List RightSet} → Backed L S a held granted → Backed L T a held granted
   backed_more b = record { holds = λ e r t. holds_more p (b.holds e r t); grants = λ e r t. may_more p (b.grants e r t) }
+
+  pub done_later : {R : State} {t : Step} → Done L R S t → Done L R T t
+  done_later h a = part_trans (h a) p
+
+  pub done_before : {U : State} {t : Step} → Done L T U t → Done L S U t
+  done_before {t = t} h a = part_trans (after_more p t) (h (allowed_more p a))
+
+-- a line adds the same for each account that entered its object, where it runs under the same account for both
+pub done_like : {L : Lists} {S T : State} {u v : ℕ} {l : Line} → worker l.runner u ≡ worker l.runner v → pair l.object u ∈ S.entered
+    → Done L S T (Follow u l) → Done L S T (Follow v l)
+done_like {L} {S} {T} {l = l} e m h (follow n i d) =
+    subst (λ w. Part (done S w l.action) T) e (h (follow m i (subst (λ w. MayDo L S l.object w l.action) (sym e) d)))
 
 module _ {p : Powers} where
   -- the powers still serve in what a saturation has grown to

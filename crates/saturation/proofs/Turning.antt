@@ -7,16 +7,15 @@ use Rattle.access.specs.declared.rights.Right.TheVariants.{Select, Insert, Updat
 use Rattle.access.specs.declared.code.Event.TheVariants.{Inserted, Updated, Deleted}
 use Rattle.access.specs.declared.code.Object.{Object}
 use Rattle.access.specs.declared.code.Object.TheVariants as object
-use Rattle.access.specs.declared.code.Line.{Line}
 use Rattle.access.specs.declared.roles.Member.{Member}
 use Rattle.access.specs.Lists.{◌∈◌, public}
 use Rattle.access.specs.Numbers.{rights}
 use Rattle.access.specs.Places.{place_of}
 use Rattle.runs.specs.declared.steps.Step.{Step}
-use Rattle.runs.specs.declared.steps.Step.TheVariants.{Switch, Grant, Join, Call, Follow}
+use Rattle.runs.specs.declared.steps.Step.TheVariants.{Switch, Grant, Join, Call}
 use Rattle.runs.specs.States.{State}
 use Rattle.runs.specs.Rights.{right_record}
-use Rattle.runs.specs.Runs.{doer_of, worker}
+use Rattle.runs.specs.Runs.{doer_of}
 use Rattle.runs.specs.Limits.{Each}
 use Rattle.runs.specs.Turns.{Tried}
 use Rattle.lookup.specs.Tables.{SmallMember, SmallStep}
@@ -24,8 +23,8 @@ use Rattle.session.specs.Reached.{state_of}
 use Rattle.session.specs.declared.states.RunState.{RunState}
 use Rattle.fitting.specs.Fits.{Powers, Opens}
 use Rattle.fitting.proofs.Allowing.{fits_to}
-use Rattle.saturation.specs.Progress.{Serves, Adds}
-use Rattle.saturation.proofs.Standing.{peopled, step_small, entered_small}
+use Rattle.saturation.specs.Progress.{Serves, Adds, Begins}
+use Rattle.saturation.proofs.Standing.{peopled, step_small}
 
 of_only : {A : Type 0} (P : A → Type 0) {x y : A} → P y → x ∈ (y ∷ []) → P x
 of_only P p (Memᴰ.head e) = subst P (sym e) p
@@ -70,13 +69,12 @@ object_only (Memᴰ.tail (Memᴰ.tail (Memᴰ.tail (Memᴰ.head p)))) = ap place
 object_only (Memᴰ.tail (Memᴰ.tail (Memᴰ.tail (Memᴰ.tail (Memᴰ.head p))))) = ap place_of p
 object_only (Memᴰ.tail (Memᴰ.tail (Memᴰ.tail (Memᴰ.tail (Memᴰ.tail m))))) = elim m [ ]
 
--- what each kind of single step of account a adds to S is in T
+-- what each kind of single step that account a begins adds to S is in T
 pub record EachKind (p : Powers) (a : ℕ) (S T : State) : Type 0 where
   pub switch : (v : ℕ) → v < 96 → Adds p S T (Switch a v)
   pub grant : (e : ℕ) (r : Right) → e < 96 → Adds p S T (Grant a (right_record public e r true))
   pub join : (j : Member) → SmallMember j → Adds p S T (Join a j)
   pub call : (x : Object) → place_of x < 96 → Adds p S T (Call a x)
-  pub follow : (v : ℕ) (l : Line) → l ∈ p.lists.lines → v < 96 → worker l.runner v ≡ a → Adds p S T (Follow v l)
 
 module _ {p : Powers} {s : RunState} {T : State} where
   -- the numbers of a step that adds anything are small
@@ -88,9 +86,9 @@ module _ {p : Powers} {s : RunState} {T : State} where
         (h (step_small g.sound (peopled g) q (fits_to t (rw e v.backed) o f)) o).part o f;
   }
 
-  pub all_added : {a : ℕ} {t : Step} → Serves p a s → EachKind p a (state_of p.lists s) T → Tried p.lists t → doer_of t ≡ a → Adds p (state_of p.lists s) T t
-  all_added v k (Tried.switch {v = w}) e = adds_small v Tried.switch e (λ m o. rw e (k.switch w m))
-  all_added v k (Tried.grant {e = n} {r = r}) e = adds_small v Tried.grant e (λ m o. rw e (k.grant n r m))
-  all_added v k (Tried.join {m = j}) e = adds_small v Tried.join e (λ m o. rw e (k.join j m))
-  all_added v k (Tried.call {x = x}) e = adds_small v Tried.call e (λ m o. rw e (k.call x m.0))
-  all_added v k (Tried.follow {v = w} {l = l} n) e = adds_small v (Tried.follow n) e (λ m o. k.follow w l n (entered_small _ v.goes o.0).1 e)
+  pub all_added : {a : ℕ} {t : Step} → Serves p a s → EachKind p a (state_of p.lists s) T → Tried p.lists t → Begins t → doer_of t ≡ a → Adds p (state_of p.lists s) T t
+  all_added v k (Tried.switch {v = w}) _ e = adds_small v Tried.switch e (λ m o. rw e (k.switch w m))
+  all_added v k (Tried.grant {e = n} {r = r}) _ e = adds_small v Tried.grant e (λ m o. rw e (k.grant n r m))
+  all_added v k (Tried.join {m = j}) _ e = adds_small v Tried.join e (λ m o. rw e (k.join j m))
+  all_added v k (Tried.call {x = x}) _ e = adds_small v Tried.call e (λ m o. rw e (k.call x m.0))
+  all_added v k (Tried.follow n) b e = elim b [ ]

@@ -7,15 +7,18 @@ use Rattle.access.specs.Lists.{◌∈◌, Lists}
 use Rattle.access.specs.Places.{place_of}
 use Rattle.catalogue.specs.Sound.{Sound}
 use Rattle.runs.specs.declared.steps.Step.{Step}
+use Rattle.runs.specs.declared.steps.Step.TheVariants.{Switch, Grant, Join, Plant, Call, Follow}
 use Rattle.runs.specs.declared.steps.Entry.{Entry}
 use Rattle.runs.specs.Standing.{Is, IsObject, OneOwner}
-use Rattle.runs.specs.States.{State, Part, start}
-use Rattle.runs.specs.Runs.{Run, after}
-use Rattle.runs.specs.Turns.{to_public}
+use Rattle.runs.specs.States.{State, Part, start, pair}
+use Rattle.runs.specs.Rights.{Holds}
+use Rattle.runs.specs.Runs.{Run, Allowed, after, doer_of}
+use Rattle.runs.specs.Turns.{Tried, to_public}
 use Rattle.runs.specs.Limits.{Distinct, Each, Opened, Joins}
 use Rattle.lookup.specs.Tables.{Marked}
 use Rattle.session.specs.Reached.{state_of, Filled}
 use Rattle.session.specs.declared.states.RunState.{RunState}
+use Rattle.saturation.specs.Kept.{Onward}
 use Rattle.fitting.specs.Fits.{Powers, Tells, Opens, Fits, Backed}
 
 abbrev pub no_lists : Lists
@@ -60,6 +63,7 @@ pub record Grown (L : Lists) (s t : RunState) : Type 0 where
   pub goes : Goes L t
   pub opener : t.opener ≡ s.opener
   pub part : Part (state_of L s) (state_of L t)
+  pub onward : Onward (state_of L s) (state_of L t)
   pub steps : length (steps_of s) ≤ length (steps_of t)
   pub quiet : length (steps_of t) ≡ length (steps_of s) → t ≡ s
 
@@ -67,6 +71,27 @@ pub record Grown (L : Lists) (s t : RunState) : Type 0 where
 pub record Serves (p : Powers) (a : ℕ) (s : RunState) : Type 0 where
   pub goes : Goes p.lists s
   pub backed : Backed p.lists (state_of p.lists s) a p.holds p.grants
+
+-- T has what the step adds to S, if it is allowed there
+abbrev pub Done : Lists → State → State → Step → Type 0
+Done L S T t = Allowed L S t → Part (after S t) T
+
+-- the step is one that an account begins, and no line that is followed
+abbrev pub Begins : Step → Type 0
+Begins (Switch a v) = Unit {0}
+Begins (Grant a g) = Unit {0}
+Begins (Join a m) = Unit {0}
+Begins (Plant a l) = Unit {0}
+Begins (Call a x) = Unit {0}
+Begins (Follow v l) = ⊥
+
+-- T has what account a adds to S by a step that it begins, or by a plant and what follows it (the last two are those of Turned)
+pub record Began (L : Lists) (S T : State) (a : ℕ) : Type 0 where
+  pub steps : (t : Step) → Tried L t → Begins t → doer_of t ≡ a → Done L S T t
+  pub taken : (x : Object) (v : ℕ) → a ∈ S.acted → pair x v ∈ S.entered → Holds L S a (place_of x) Alter
+      → (v ∈ T.acted) ⊎ (to_public v ∈ T.rights)
+  pub lent : (x y : Object) (v u : ℕ) → a ∈ S.acted → pair x v ∈ S.entered → Holds L S a (place_of x) Alter
+      → u ∈ S.acted → Holds L S a u Impersonate → IsObject L y → OneOwner L x y → pair y u ∈ T.entered
 
 -- T has all that the step adds to S, if the powers allow it there
 pub record Adds (p : Powers) (S T : State) (t : Step) : Type 0 where

@@ -1,5 +1,5 @@
 // Where an actor can plant a line that somebody follows.
-ghost use Rattle.std.specs.Prelude.{◌≡◌, ℕ, ◌<◌, false, MatchOption, Decides};
+ghost use Rattle.std.specs.Prelude.{◌≡◌, ℕ, ◌<◌, true, MatchOption, Decides};
 ghost use Rattle.access.specs.declared.code.Object.{Object};
 ghost use Rattle.access.specs.declared.code.Object.TheVariants.{Created};
 ghost use Rattle.access.specs.declared.rights.Right.TheVariants.{Alter};
@@ -10,25 +10,26 @@ ghost use Rattle.runs.specs.Standing.{OneOwner};
 ghost use Rattle.runs.specs.States.{pair};
 ghost use Rattle.session.specs.Reached.{state_of};
 ghost use Rattle.fitting.specs.Fits.{Tells};
+ghost use Rattle.saturation.specs.Among.{HasOwner};
 ghost use Rattle.saturation.specs.Progress.{Goes, Foothold};
 
+use crate::numbers::with_owner;
 use crate::objects::objects_at;
 use crate::trying::is_entered;
 use access::{Object, Right};
 use fitting::{Actor, one_owner};
+use order::Bits;
 use runs::Entry;
 use session::RunState;
 
 // An account that entered an object, if there is one.
-fn entrant(state: &RunState, object: Object) -> Option<u8>
+pub fn entrant(state: &RunState, object: Object) -> Option<u8>
     ensures { (L : Lists) → Goes L state.now → MatchOption result ((v : ℕ) → v < 96 → pair object v ∈ (state_of L state.now).entered → ⊥) (λ v. pair object v ∈ (state_of L state.now).entered) }
 {
-    if state.marks.is_closed(object) {
-        return None;
-    }
-    for v in 0..96 {
-        if is_entered(state, Entry { object, account: v }) {
-            return Some(v);
+    for v in Bits(state.marks.entrants(object)) {
+        let account = v as u8;
+        if is_entered(state, Entry { object, account }) {
+            return Some(account);
         }
     }
     None
@@ -68,17 +69,24 @@ pub fn foothold_for(state: &RunState, actor: &Actor, object: Object) -> Option<E
     None
 }
 
-// Whether somebody entered an object in which the actor can plant.
-pub fn has_foothold(state: &RunState, actor: &Actor) -> bool
+// Whether somebody entered an object of the entity, in which the actor can plant.
+fn is_foothold(state: &RunState, actor: &Actor, entity: u8) -> bool
     requires { Goes actor.now.lists state.now }
-    ensures { result ≡ false → (x : Object) (n : Entry) → Foothold actor.now (state_of actor.now.lists state.now) x n → ⊥ }
+    ensures { (x : Object) (n : Entry) → place_of n.object ≡ entity → Foothold actor.now (state_of actor.now.lists state.now) x n → result ≡ true }
 {
+    actor.holds(entity, Right::Alter) && entry_at(state, entity).is_some()
+}
+
+// The owners of the entities in whose objects the actor can plant, of which somebody entered one.
+pub fn owners_of_footholds(state: &RunState, actor: &Actor) -> u128
+    requires { Goes actor.now.lists state.now }
+    ensures { (x : Object) (n : Entry) → Foothold actor.now (state_of actor.now.lists state.now) x n → HasOwner actor.now.lists result (place_of x) }
+{
+    let mut owners = 0;
     for e in 0..96 {
-        if actor.holds(e, Right::Alter)
-            && let Some(_) = entry_at(state, e)
-        {
-            return true;
+        if is_foothold(state, actor, e) {
+            owners = with_owner(actor.model, owners, e);
         }
     }
-    false
+    owners
 }

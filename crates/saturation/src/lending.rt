@@ -1,19 +1,23 @@
 // All that the actor can lend: whom it may impersonate enters what it can reach.
-ghost use Rattle.std.specs.Prelude.{◌≡◌, ℕ, ◌<◌};
+ghost use Rattle.std.specs.Prelude.{◌≡◌, ℕ, ◌<◌, true, ◌⊎◌};
 ghost use Rattle.access.specs.declared.code.Object.{Object};
-ghost use Rattle.access.specs.Lists.{◌∈◌};
+ghost use Rattle.access.specs.Bits.{bit};
+ghost use Rattle.access.specs.Lists.{◌∈◌, Lists};
 ghost use Rattle.access.specs.Places.{place_of};
 ghost use Rattle.runs.specs.declared.steps.Entry.{Entry};
 ghost use Rattle.runs.specs.States.{pair};
 ghost use Rattle.session.specs.Reached.{state_of};
-ghost use Rattle.saturation.specs.Progress.{Grown, Serves, Lent, Foothold};
+ghost use Rattle.saturation.specs.Among.{HasOwner};
+ghost use Rattle.saturation.specs.Progress.{Goes, Grown, Serves, Lent, Foothold};
 
-use crate::footholds::{foothold_for, has_foothold};
-use crate::objects::objects_at;
+use crate::footholds::{foothold_for, owners_of_footholds};
+use crate::numbers::{owner_is_in, without};
+use crate::objects::{has_objects, objects_at};
 use crate::planting::lend;
 use crate::trying::acts;
 use access::Object;
 use fitting::{Actor, is_object};
+use order::Bits;
 use runs::Entry;
 use session::RunState;
 
@@ -30,6 +34,13 @@ fn lends_one(state: &mut RunState, actor: &Actor, account: u8, foothold: Entry, 
     }
 }
 
+// The accounts that are acted as and have not entered the object.
+fn missing(state: &RunState, object: Object) -> u128
+    ensures { (L : Lists) (v : ℕ) → Goes L state.now → place_of object < 96 → v < 96 → v ∈ (state_of L state.now).acted → (bit result v ≡ true) ⊎ (pair object v ∈ (state_of L state.now).entered) }
+{
+    without(state.marks.actors(), state.marks.entrants(object))
+}
+
 // Lets every account that is acted as enter the object.
 fn lends_each(state: &mut RunState, actor: &Actor, account: u8, foothold: Entry, object: Object)
     requires serves { Serves actor.now account state.old }
@@ -38,25 +49,24 @@ fn lends_each(state: &mut RunState, actor: &Actor, account: u8, foothold: Entry,
     ensures grown { Grown actor.now.lists state.old state.new }
     ensures lent { (u : ℕ) → u < 96 → u ∈ (state_of actor.now.lists state.old).acted → Lent actor.now (state_of actor.now.lists state.new) (pair object u) }
 {
-    for u in 0..96 {
-        lends_one(
-            state,
-            actor,
-            account,
-            foothold,
-            Entry { object, account: u },
-        );
+    for u in Bits(missing(state, object)) {
+        let lent = Entry {
+            object,
+            account: u as u8,
+        };
+        lends_one(state, actor, account, foothold, lent);
     }
 }
 
-// The same, if there is a way.
+// The same, if there is a way and somebody is missing.
 fn lends_to(state: &mut RunState, actor: &Actor, account: u8, object: Object)
     requires serves { Serves actor.now account state.old }
     requires acted { account ∈ (state_of actor.now.lists state.old).acted }
     ensures grown { Grown actor.now.lists state.old state.new }
     ensures lent { (n : Entry) (u : ℕ) → Foothold actor.now (state_of actor.now.lists state.old) object n → u < 96 → u ∈ (state_of actor.now.lists state.old).acted → Lent actor.now (state_of actor.now.lists state.new) (pair object u) }
 {
-    if is_object(actor.model, object)
+    if missing(state, object) != 0
+        && is_object(actor.model, object)
         && let Some(foothold) = foothold_for(state, actor, object)
     {
         lends_each(state, actor, account, foothold, object);
@@ -75,6 +85,18 @@ fn lends_at(state: &mut RunState, actor: &Actor, account: u8, entity: u8)
     }
 }
 
+// The same, if the entity can have objects and its owner is one of these.
+fn lends_if(state: &mut RunState, actor: &Actor, account: u8, owners: u128, entity: u8)
+    requires serves { Serves actor.now account state.old }
+    requires acted { account ∈ (state_of actor.now.lists state.old).acted }
+    ensures grown { Grown actor.now.lists state.old state.new }
+    ensures lent { (x : Object) (n : Entry) (u : ℕ) → place_of x ≡ entity → HasOwner actor.now.lists owners entity → Foothold actor.now (state_of actor.now.lists state.old) x n → u < 96 → u ∈ (state_of actor.now.lists state.old).acted → Lent actor.now (state_of actor.now.lists state.new) (pair x u) }
+{
+    if has_objects(actor.model, entity) && owner_is_in(actor.model, owners, entity) {
+        lends_at(state, actor, account, entity);
+    }
+}
+
 // Lets every account that is acted as enter every object.
 pub fn lends(state: &mut RunState, actor: &Actor, account: u8)
     requires serves { Serves actor.now account state.old }
@@ -82,10 +104,11 @@ pub fn lends(state: &mut RunState, actor: &Actor, account: u8)
     ensures grown { Grown actor.now.lists state.old state.new }
     ensures lent { (x : Object) (n : Entry) (u : ℕ) → Foothold actor.now (state_of actor.now.lists state.old) x n → u ∈ (state_of actor.now.lists state.old).acted → Lent actor.now (state_of actor.now.lists state.new) (pair x u) }
 {
-    if !has_foothold(state, actor) {
+    let owners = owners_of_footholds(state, actor);
+    if owners == 0 {
         return;
     }
     for e in 0..96 {
-        lends_at(state, actor, account, e);
+        lends_if(state, actor, account, owners, e);
     }
 }

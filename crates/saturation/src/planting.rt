@@ -3,14 +3,12 @@ ghost use Rattle.access.specs.Lists.{◌∈◌};
 ghost use Rattle.session.specs.Reached.{state_of};
 ghost use Rattle.saturation.specs.Progress.{Grown, Serves, Taken, Lent, Foothold};
 
+use crate::PUBLIC;
 use crate::trying::{acts, is_entered};
 use access::{Action, Line, Object, Right, RightRecord, Runner};
 use fitting::Actor;
 use runs::{Entry, Step};
 use session::RunState;
-
-// The role that everyone is in.
-const PUBLIC: u8 = 1;
 
 // Takes over an account that entered an object in which the actor can plant.
 pub fn take(state: &mut RunState, actor: &Actor, account: u8, entry: Entry)

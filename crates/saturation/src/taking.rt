@@ -8,11 +8,13 @@ ghost use Rattle.runs.specs.States.{pair};
 ghost use Rattle.session.specs.Reached.{state_of};
 ghost use Rattle.saturation.specs.Progress.{Grown, Serves, Taken};
 
-use crate::objects::objects_at;
+use crate::numbers::without;
+use crate::objects::{has_objects, objects_at};
 use crate::planting::take;
 use crate::trying::is_entered;
 use access::{Object, Right};
 use fitting::Actor;
+use order::Bits;
 use runs::Entry;
 use session::RunState;
 
@@ -28,18 +30,20 @@ fn take_entered(state: &mut RunState, actor: &Actor, account: u8, entry: Entry)
     }
 }
 
-// Takes over every account that entered an object.
+// Takes over every account that entered an object; who is acted as is taken over already.
 fn takes_from(state: &mut RunState, actor: &Actor, account: u8, object: Object)
     requires serves { Serves actor.now account state.old }
     requires acted { account ∈ (state_of actor.now.lists state.old).acted }
     ensures grown { Grown actor.now.lists state.old state.new }
     ensures taken { (v : ℕ) → v < 96 → pair object v ∈ (state_of actor.now.lists state.old).entered → Taken actor.now (state_of actor.now.lists state.new) (pair object v) }
 {
-    if state.marks.is_closed(object) {
-        return;
-    }
-    for v in 0..96 {
-        take_entered(state, actor, account, Entry { object, account: v });
+    let entrants = state.marks.entrants(object);
+    for v in Bits(without(entrants, state.marks.actors())) {
+        let entry = Entry {
+            object,
+            account: v as u8,
+        };
+        take_entered(state, actor, account, entry);
     }
 }
 
@@ -55,14 +59,14 @@ fn takes_at(state: &mut RunState, actor: &Actor, account: u8, entity: u8)
     }
 }
 
-// The same, if the actor can plant in it.
+// The same, if the entity can have objects and the actor can plant in them.
 fn takes_if(state: &mut RunState, actor: &Actor, account: u8, entity: u8)
     requires serves { Serves actor.now account state.old }
     requires acted { account ∈ (state_of actor.now.lists state.old).acted }
     ensures grown { Grown actor.now.lists state.old state.new }
     ensures taken { (n : Entry) → n ∈ (state_of actor.now.lists state.old).entered → place_of n.object ≡ entity → Taken actor.now (state_of actor.now.lists state.new) n }
 {
-    if actor.holds(entity, Right::Alter) {
+    if has_objects(actor.model, entity) && actor.holds(entity, Right::Alter) {
         takes_at(state, actor, account, entity);
     }
 }

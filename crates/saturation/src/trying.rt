@@ -58,7 +58,7 @@ pub fn attempt(state: &mut RunState, actor: &Actor, step: Step)
     ensures grown { Grown actor.now.lists state.old state.new }
     ensures added { Adds actor.now (state_of actor.now.lists state.old) (state_of actor.now.lists state.new) step }
 {
-    if opens(state, step) && actor.fits(step) && !state.marks.has(step) {
+    if !state.marks.has(step) && opens(state, step) && actor.fits(step) {
         state.commit(step);
     }
 }

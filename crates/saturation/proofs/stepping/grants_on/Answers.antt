@@ -1,10 +1,15 @@
 use Rattle.std.proofs.Common.{arith}
 use Rattle.access.specs.Numbers.{rights}
 use Rattle.runs.specs.Turns.{Tried}
+use Rattle.saturation.proofs.Gaining.{grants_already}
 use Rattle.saturation.proofs.Going.{grown_same, grown_trans}
 use Rattle.saturation.proofs.Staying.{serves_more, adds_later, adds_before}
 use Rattle.saturation.proofs.Turning.{taken_more, all_taken, right_there}
 use Rattle.saturation.proofs.stepping.grants_on.Goals as goal
+
+pub returns-then-not-grants_more-clause-added : goal.returns-then-not-grants_more-clause-added
+returns-then-not-grants_more-clause-added c r =
+    record { part = λ o f. grants_already c.args.account ((c.rights.ensures _ r f.1.0 c.requires.goes.ran.marked).0 (c.grants_more.ensures r c.if-not-grants_more.true f.1)) }
 
 pub attempt-requires-clause-serves : goal.attempt-requires-clause-serves
 attempt-requires-clause-serves c = serves_more c.requires c.loop-right.invariant.grown

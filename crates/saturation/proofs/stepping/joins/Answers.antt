@@ -3,8 +3,8 @@ use Rattle.saturation.proofs.Going.{grown_trans}
 use Rattle.saturation.proofs.Staying.{serves_more, adds_later, adds_before}
 use Rattle.saturation.proofs.stepping.joins.Goals as goal
 
-pub joins_in-requires : goal.joins_in-requires
-joins_in-requires c = serves_more c.requires c.loop-role.invariant.grown
+pub joins_in-requires-clause-serves : goal.joins_in-requires-clause-serves
+joins_in-requires-clause-serves c = serves_more c.requires.serves c.loop-role.invariant.grown
 
 pub loop-role-preserved : goal.loop-role-preserved
 loop-role-preserved c =

@@ -1,12 +1,15 @@
-use Rattle.std.proofs.Common.{ℕ, ◌<◌}
+use Rattle.std.proofs.Common.{◌<◌}
+use Rattle.access.specs.declared.entities.Kind.TheVariants.{Account}
 use Rattle.runs.specs.declared.steps.Step.TheVariants.{Switch}
+use Rattle.runs.specs.Standing.{Is}
 use Rattle.session.specs.Reached.{state_of}
 use Rattle.saturation.specs.Progress.{Grown, Adds}
+use Rattle.saturation.proofs.Bitwise.{Left}
 use Rattle.saturation.proofs.stepping.switches.Given as goal
 
--- what switches to the accounts before this one add is there
-abbrev pub invariant-loop-to : goal.invariant-loop-to
-invariant-loop-to l = record {
+-- each number is left, or what it adds is there
+abbrev pub invariant-loop-v : goal.invariant-loop-v
+invariant-loop-v l = record {
   grown : Grown l.actor.lists l.initial.state l.state;
-  added : (u : ℕ) → u < l.to → Adds l.actor (state_of l.actor.lists l.initial.state) (state_of l.actor.lists l.state) (Switch l.account u);
+  added : Left (λ u. (u < 96) × Is l.actor.lists Account u) (λ u. Adds l.actor (state_of l.actor.lists l.initial.state) (state_of l.actor.lists l.state) (Switch l.account u)) l.v-iterator.0;
 }

@@ -1,32 +1,21 @@
-use Rattle.std.proofs.Common.{◌≡◌, length, sym, subst, below_more, arith}
-use Rattle.runs.specs.Turns.{Turned}
+use Rattle.std.proofs.Common.{◌≡◌, length, sym, subst, arith}
 use Rattle.session.specs.Models.{lists_of}
 use Rattle.session.specs.Reached.{state_of}
 use Rattle.session.specs.declared.states.RunState.{RunState}
-use Rattle.fitting.proofs.Smalls.{is_small}
-use Rattle.saturation.specs.Progress.{steps_of}
+use Rattle.saturation.specs.Progress.{steps_of, Began}
 use Rattle.saturation.proofs.Going.{grown_trans}
+use Rattle.saturation.proofs.Sweeps.{turned_by}
 use Rattle.saturation.proofs.sweeping.sweep.Goals as goal
 
-pub turn_of-requires : goal.turn_of-requires
-turn_of-requires c = c.loop-a.invariant.grown.goes
-
-pub loop-a-preserved : goal.loop-a-preserved
-loop-a-preserved c =
-    let L = lists_of c.args.model.now in
-    let h = c.loop-a.invariant in
-    let e = c.turn_of.ensures in
-    let new = c.turn_of.new.state in
-    record {
-      grown = grown_trans h.grown e.grown;
-      quiet = λ q.
-          let last : length (steps_of new) ≡ length (steps_of c.loop-a.state) = omega (arith, h.grown.steps, e.grown.steps, q) in
-          let first : length (steps_of c.loop-a.state) ≡ length (steps_of c.args.state.now) = omega (arith, h.grown.steps, e.grown.steps, q) in
-          let same = sym (e.grown.quiet last) in
-          below_more _ _ (λ b m i. subst (λ (s : RunState). Turned L (state_of L s) (state_of L s) b) same (h.quiet first b m i))
-          (λ i. subst (λ (s : RunState). Turned L (state_of L s) (state_of L new) c.loop-a.a) same (e.turned i));
-    }
+pub returns-clause-grown : goal.returns-clause-grown
+returns-clause-grown c = grown_trans c.turns.ensures.grown c.follow_all.ensures.grown
 
 pub returns-clause-quiet : goal.returns-clause-quiet
 returns-clause-quiet c q a i =
-    c.loop-a.invariant.quiet q a (omega (arith, is_small c.loop-a.invariant.grown.goes.ran.sound i, c.loop-a-test.false)) i
+    let L = lists_of c.args.model.now in
+    let t = c.turns.ensures in
+    let f = c.follow_all.ensures in
+    let new = c.follow_all.new.state in
+    let first : length (steps_of c.turns.new.state) ≡ length (steps_of c.args.state.now) = omega (arith, t.grown.steps, f.grown.steps, q) in
+    let last : length (steps_of new) ≡ length (steps_of c.turns.new.state) = omega (arith, t.grown.steps, f.grown.steps, q) in
+    turned_by (subst (λ (s : RunState). Began L (state_of L s) (state_of L s) a) (sym (f.grown.quiet last)) (t.quiet first a i)) f.done

@@ -1,13 +1,22 @@
-use Rattle.std.proofs.Common.{below_more}
-use Rattle.saturation.proofs.Going.{grown_trans}
+use Rattle.std.proofs.Common.{inl, arith}
+use Rattle.saturation.proofs.Bitwise.{left_without, left_more, left_none}
+use Rattle.saturation.proofs.Going.{grown_same, grown_trans}
 use Rattle.saturation.proofs.Staying.{serves_more, taken_later}
 use Rattle.saturation.proofs.Standing.{entered_small}
 use Rattle.saturation.proofs.taking.takes_from.Goals as goal
 
-pub returns-then-is_closed-clause-taken : goal.returns-then-is_closed-clause-taken
-returns-then-is_closed-clause-taken c v h m =
+pub loop-v-init : goal.loop-v-init
+loop-v-init c =
     let g = c.requires.serves.goes in
-    absurd (c.is_closed.ensures _ (entered_small _ g m).0 g.ran.marked c.if-is_closed.true v h m)
+    rw c.into_iter-v-iterator.ensures.into_iter_gives
+    (record {
+      grown = grown_same g;
+      taken = left_without _ _ _ _ _ c.without.type_inv c.without.ensures (λ u m. (c.entrants-entrants.ensures _ u (entered_small _ g m) g.ran.marked).1 m)
+          (λ u m t. record { is = λ _. inl ((c.actors.ensures _ u (entered_small _ g m).1 g.ran.marked).0 t) });
+    })
+
+pub overflow_cast-entry : goal.overflow_cast-entry
+overflow_cast-entry c = omega (arith, c.loop-v.invariant.taken.small _ c.in-Some.ensures.steps.0)
 
 pub take_entered-requires-clause-serves : goal.take_entered-requires-clause-serves
 take_entered-requires-clause-serves c = serves_more c.requires.serves c.loop-v.invariant.grown
@@ -21,5 +30,8 @@ loop-v-preserved c =
     let e = c.take_entered.ensures in
     record {
       grown = grown_trans h.grown e.grown;
-      taken = below_more _ _ (λ v m i. taken_later e.grown.part (h.taken v m i)) (λ i. e.taken (h.grown.part.entered _ i));
+      taken = left_more _ _ _ _ _ _ c.in-Some.ensures.steps (λ u t. taken_later e.grown.part t) (λ i. e.taken (h.grown.part.entered _ i)) h.taken;
     }
+
+pub returns-clause-taken : goal.returns-clause-taken
+returns-clause-taken c v h m = left_none _ _ _ c.in-None.ensures.steps.0 c.loop-v.invariant.taken v m

@@ -1,8 +1,0 @@
-use Rattle.session.specs.Models.{lists_of}
-use Rattle.fitting.proofs.Allowing.{recorded}
-use Rattle.saturation.proofs.sweeping.rows_in.Goals as goal
-
-pub returns : goal.returns
-returns c =
-    let all = rw (c.deref.ensures.value, c.deref-2.ensures.value) at c.rows.ensures in
-    all _ (recorded (lists_of c.args.model.now) c.args.state.now)
