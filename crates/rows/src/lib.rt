@@ -12,7 +12,7 @@ mod tests;
 use access::Refusal;
 
 // How many bytes a row has.
-const WIDTH: usize = 96;
+pub const WIDTH: usize = 96;
 
 // The row at the front of the bytes.
 fn row_of(bytes: &[u8]) -> Result<&[u8], Refusal>
