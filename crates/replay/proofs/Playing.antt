@@ -18,7 +18,7 @@ use Rattle.runs.proofs.Growing.{run_then}
 use Rattle.runs.proofs.Grounds.{account_is}
 use Rattle.session.proofs.Rowing.{rowed_any}
 use Rattle.replay.specs.declared.courses.Seen.{Seen}
-use Rattle.replay.specs.Good.{Kept, SameRecords}
+use Rattle.replay.specs.Keeping.{SeenTells, SameRecords}
 use Rattle.replay.specs.declared.questions.Question.{Question}
 use Rattle.replay.specs.Questions.{Asks}
 use Rattle.replay.specs.Replays.{Stops, HeldBy, Comes, question_reasons}
@@ -29,9 +29,9 @@ run_same ends ends = refl
 run_same (goes h r) (goes k q) = run_same r q
 
 -- rows tell of the state after a step that leaves the records
-pub kept_stays : (L : Lists) (S : State) {t : Step} → SameRecords t → (seen : Option Seen) → Kept L S seen → Kept L (after S t) seen
-kept_stays L S q None w = tt
-kept_stays L S {t} q (Some s) w =
+pub seen_stays : (L : Lists) (S : State) {t : Step} → SameRecords t → (seen : Option Seen) → SeenTells L S seen → SeenTells L (after S t) seen
+seen_stays L S q None w = tt
+seen_stays L S {t} q (Some s) w =
     rowed_any L s.account s.rows.holds.sets s.rows.grants.sets S (after S t)
     (record { rights = λ x m. rw (q.rights S) m; members = λ x m. rw (q.members S) m })
     (record { rights = λ x m. rw (q.rights S) at m; members = λ x m. rw (q.members S) at m })

@@ -1,5 +1,5 @@
 pub mod Situations
-pub mod Good
+pub mod Keeping
 pub mod Replays
 pub mod Questions
 pub mod Laws

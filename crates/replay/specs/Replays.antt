@@ -15,7 +15,7 @@ use Rattle.runs.specs.States.{State, start}
 use Rattle.runs.specs.Rights.{Holds}
 use Rattle.runs.specs.Runs.{Allowed, Run, UseBy, HoldBy}
 
--- the right that a question asks for, or why it is declined
+-- account and entity stand, right and sense are listed
 abbrev pub question_listed : List Entity → ℕ → ℕ → ℕ → ℕ → Bool
 question_listed es a sense e r = stands es a && (stands es e && (is_some (right_at r) && nat_lt sense 2))
 
@@ -25,6 +25,7 @@ question_reasons es a sense e r =
     ∷ (not (fits is_account es a), code WrongKind)
     ∷ []
 
+-- the right that a question asks for, or why it is declined
 abbrev pub judged_question : List Entity → ℕ → ℕ → ℕ → ℕ → Result Right Code
 judged_question es a sense e r = judged (question_reasons es a sense e r) (unwrap_or (right_at r) Select)
 

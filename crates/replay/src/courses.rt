@@ -6,10 +6,11 @@ ghost use Rattle.runs.specs.Rights.{Holds};
 ghost use Rattle.runs.specs.Runs.{Allowed, after};
 ghost use Rattle.runs.specs.States.{State, start};
 ghost use Rattle.session.specs.Models.{lists_of};
-ghost use Rattle.session.specs.Reached.{Filled};
+ghost use Rattle.session.specs.Reached.{Filled, state_of};
 ghost use Rattle.session.specs.Rowed.{Rowed};
+ghost use Rattle.fitting.specs.Smalls.{Small};
 ghost use Rattle.replay.specs.Situations.{state_in};
-ghost use Rattle.replay.specs.Good.{Kept, SameRecords};
+ghost use Rattle.replay.specs.Keeping.{SeenTells, SameRecords};
 
 use crate::courses::opening::doer;
 use access::{Action, Line, Right};
@@ -43,7 +44,7 @@ impl<'a> std::marker::Model for Course<'a> {
     ghost view = { λ c. record { lists = lists_of c.model.now; came = c.state.now } };
 
     ghost use Rattle.session.specs.Reached.{state_of};
-    ghost use Rattle.replay.specs.Good.{Keeps};
+    ghost use Rattle.replay.specs.Keeping.{Keeps};
 
     ghost invariant = { λ c. Keeps (lists_of c.model.now) (state_of (lists_of c.model.now) c.state.now) c.seen };
 }
@@ -68,9 +69,9 @@ fn keeps_records(step: Step) -> bool
 }
 
 // The rows that tell of the state after a step too.
-#[tactic(auto, using(crate::proofs::Playing::kept_stays))]
+#[tactic(auto, using(crate::proofs::Playing::seen_stays))]
 fn kept_over(seen: Option<Seen>, step: Step) -> Option<Seen>
-    ensures { (L : Lists) (S : State) → Kept L S seen → Kept L (after S step) result }
+    ensures { (L : Lists) (S : State) → SeenTells L S seen → SeenTells L (after S step) result }
 {
     if keeps_records(step) { seen } else { None }
 }
@@ -85,6 +86,19 @@ impl<'a> Course<'a> {
         ensures few { Filled result.came 0 }
     {
         state.open(model, account);
+        Course {
+            model,
+            state,
+            seen: None,
+        }
+    }
+
+    // A run that has come to a state.
+    pub fn over(model: &'a Model, state: &'a mut RunState) -> Self
+        requires { Small (state_of (lists_of model.now) state.old) }
+        ensures lists { result.lists ≡ lists_of model.now }
+        ensures came { result.came ≡ state.old }
+    {
         Course {
             model,
             state,

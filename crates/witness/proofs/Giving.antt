@@ -8,16 +8,16 @@ use Rattle.runs.specs.Laws.{Tells}
 use Rattle.replay.specs.declared.questions.Question.{Question}
 use Rattle.replay.specs.Questions.{Asks}
 use Rattle.replay.specs.Replays.{HeldBy, Comes, accepted, asked}
-use Rattle.witness.specs.Spares.{ComesTo, SpareTo}
+use Rattle.witness.specs.Lean.{ComesTo, LeanTo}
 use Rattle.witness.specs.Witnesses.{Witnesses, found}
 
 pub handed : {L : Lists} {a sense e r n : ℕ} {q : Question} {old new : List Step} (list : List Step) → Asks L.entities a sense e r q → 4096 ≤ length old
-    → ComesTo L q list → SpareTo L q list → length list ≤ 4096 → n ≡ length list → take n new ≡ list → drop n new ≡ drop n old → length new ≡ length old
+    → ComesTo L q list → LeanTo L q list → length list ≤ 4096 → n ≡ length list → take n new ≡ list → drop n new ≡ drop n old → length new ≡ length old
     → Witnesses L a sense e r old new (Ok (Some n))
-handed {L} {a} {sense} {e} {r} {n} {q} {old} {new} list asks room comes spare few count put rest same =
+handed {L} {a} {sense} {e} {r} {n} {q} {old} {new} list asks room comes lean few count put rest same =
     let comes_here = rw (asks.account, asks.sense, asks.entity) at comes in
-    let spare_here = rw (asks.account, asks.sense, asks.entity) at spare in
-    found asks.right room (omega arith) (rw put (asked asks.right few (accepted comes_here))) (rw put spare_here) rest same
+    let lean_here = rw (asks.account, asks.sense, asks.entity) at lean in
+    found asks.right room (omega arith) (rw put (asked asks.right few (accepted comes_here))) (rw put lean_here) rest same
 
 -- a state that tells what can be come to has the right of any steps that come to it
 pub comes_held : {L : Lists} {a : ℕ} {S : State} (e : ℕ) (right : Right) (steps : List Step) → Tells L a S → (sense : ℕ) → Comes L a sense steps e right → HeldBy L S a sense e right

@@ -1,4 +1,3 @@
 pub mod Playing
 pub mod Trying
-pub mod Acting
 pub mod Giving

@@ -12,7 +12,7 @@ use Rattle.replay.specs.Questions.{sense_number}
 use Rattle.replay.specs.Replays.{HeldBy, Comes}
 use Rattle.replay.proofs.Playing.{comes_to, comes_from}
 use Rattle.witness.specs.Plays.{Plays, Played, left_out}
-use Rattle.witness.specs.Spares.{ComesTo, Shorter}
+use Rattle.witness.specs.Lean.{ComesTo, Shorter}
 use Rattle.witness.proofs.Playing.{plays_run, plays_length, plays_same, plays_first}
 
 -- what steps come to, they come to by a run

@@ -1,3 +1,3 @@
 pub mod Plays
-pub mod Spares
+pub mod Lean
 pub mod Witnesses

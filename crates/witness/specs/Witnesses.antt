@@ -6,7 +6,7 @@ use Rattle.access.specs.Codes.{Code, code}
 use Rattle.access.specs.Lists.{Lists}
 use Rattle.runs.specs.declared.steps.Step.{Step}
 use Rattle.replay.specs.Replays.{judged_question, Comes, Replays}
-use Rattle.witness.specs.Spares.{Spare}
+use Rattle.witness.specs.Lean.{Lean}
 
 -- what is returned, and what the caller's room becomes
 pub data Witnesses (L : Lists) (a sense e r : ℕ) (old new : List Step) : Result (Option ℕ) Code → Type 0 where
@@ -17,5 +17,5 @@ pub data Witnesses (L : Lists) (a sense e r : ℕ) (old new : List Step) : Resul
       → ((steps : List Step) → Comes L a sense steps e right → ⊥) → new ≡ old → Witnesses L a sense e r old new (Ok None)
   -- the first n steps of the room are a run that a replay accepts, each is missed, and the rest of the room is left
   found : {right : Right} {n : ℕ} → judged_question L.entities a sense e r ≡ Ok right → 4096 ≤ length old → n ≤ 4096
-      → Replays L a sense e r (take n new) {X = Unit {0}} (Ok tt) → Spare L a sense e right (take n new)
+      → Replays L a sense e r (take n new) {X = Unit {0}} (Ok tt) → Lean L a sense e right (take n new)
       → drop n new ≡ drop n old → length new ≡ length old → Witnesses L a sense e r old new (Ok (Some n))

@@ -1,4 +1,4 @@
-// How a list is handed to whom asked for it.
+// How a list of steps is written to the caller's room.
 ghost use Rattle.std.specs.Prelude.{◌≡◌, ◌≤◌, length, take, drop};
 
 use runs::Step;

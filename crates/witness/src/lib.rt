@@ -1,10 +1,9 @@
-// A list of steps by which a session comes to a right, without the steps that are not missed.
+// A list of steps by which a session comes to a right, of which no step can be left out.
 #![tactic(auto)]
 
 mod handing;
 mod plays;
 mod shortening;
-mod standing;
 mod witnesses;
 
 pub use witnesses::witness;

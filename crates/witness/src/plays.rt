@@ -3,7 +3,7 @@ ghost use Rattle.std.specs.Prelude.{◌≡◌, ℕ, ◌+◌, ◌-◌, ◌<◌, �
 ghost use Rattle.session.specs.Models.{lists_of};
 ghost use Rattle.session.specs.Reached.{Filled};
 ghost use Rattle.witness.specs.Plays.{Played, left_out};
-ghost use Rattle.witness.specs.Spares.{ComesTo, Shorter, Needed};
+ghost use Rattle.witness.specs.Lean.{ComesTo, Shorter, Needed};
 
 use replay::{Course, Question};
 use runs::Step;

@@ -1,7 +1,7 @@
 // Leaves out the steps of a run that are not missed.
 ghost use Rattle.std.specs.Prelude.{◌≡◌, ◌<◌, ◌≤◌, vec_len, MatchBool};
 ghost use Rattle.session.specs.Models.{lists_of};
-ghost use Rattle.witness.specs.Spares.{ComesTo, SpareTo};
+ghost use Rattle.witness.specs.Lean.{ComesTo, LeanTo};
 
 use crate::plays::try_without;
 use replay::Question;
@@ -21,7 +21,7 @@ fn pass(
     requires some { 1 ≤ size }
     ensures comes { ComesTo (lists_of model.now) question.now list.new.items.items }
     ensures few { vec_len list.new.items ≤ vec_len list.old.items }
-    ensures passed { MatchBool result (vec_len list.new.items < vec_len list.old.items) (size ≡ 1 → SpareTo (lists_of model.now) question.now list.new.items.items) }
+    ensures passed { MatchBool result (vec_len list.new.items < vec_len list.old.items) (size ≡ 1 → LeanTo (lists_of model.now) question.now list.new.items.items) }
 {
     let mut any = false;
     let mut end = list.items.len();
@@ -42,7 +42,7 @@ pub fn shorten(model: &Model, state: &mut RunState, question: &Question, list: &
     requires few { vec_len list.old.items ≤ 4096 }
     ensures comes { ComesTo (lists_of model.now) question.now list.new.items.items }
     ensures few { vec_len list.new.items ≤ vec_len list.old.items }
-    ensures spare { SpareTo (lists_of model.now) question.now list.new.items.items }
+    ensures lean { LeanTo (lists_of model.now) question.now list.new.items.items }
 {
     let mut size = list.items.len().div_ceil(2);
     while size > 1 {

@@ -6,15 +6,14 @@ ghost use Rattle.catalogue.specs.Sound.{Sound};
 ghost use Rattle.runs.specs.declared.steps.Step.{Step};
 ghost use Rattle.runs.specs.Standing.{Is};
 ghost use Rattle.session.specs.Models.{lists_of};
-ghost use Rattle.witness.specs.Spares.{ComesTo, Found};
+ghost use Rattle.witness.specs.Lean.{ComesTo, Found};
 ghost use Rattle.witness.specs.Witnesses.{Witnesses};
 
 use crate::handing::put;
 use crate::shortening::shorten;
-use crate::standing::stands;
 use access::{QuestionNumbers, Refusal};
 use catalogue::Catalogue;
-use replay::{Question, judge_question};
+use replay::{Course, Question, judge_question};
 use runs::Step;
 use saturation::saturate;
 use session::{Model, RunState, StepList, Workspace};
@@ -28,10 +27,11 @@ fn find(model: &Model, state: &mut RunState, question: &Question, list: &mut Ste
     ensures { MatchBool result (Found (lists_of model.now) question.now list.new.items.items) ((steps : List Step) → ComesTo (lists_of model.now) question.now steps → ⊥) }
 {
     saturate(model, state, question.account);
-    if !stands(model, state, question) {
+    let mut course = Course::over(model, state);
+    if !course.answers(question) {
         return false;
     }
-    list.copy(&state.steps);
+    list.copy(course.steps());
     shorten(model, state, question, list);
     true
 }

@@ -1,6 +1,6 @@
 use Rattle.std.proofs.Common.{◌≡◌, ℕ, ◌<◌, ◌≤◌, true, false, vec_len}
 use Rattle.session.specs.Models.{lists_of}
-use Rattle.witness.specs.Spares.{ComesTo}
+use Rattle.witness.specs.Lean.{ComesTo}
 use Rattle.witness.specs.Plays.{left_out}
 use Rattle.witness.proofs.shortening.pass.Given as goal
 

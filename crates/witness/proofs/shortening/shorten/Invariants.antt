@@ -3,7 +3,7 @@ use Rattle.session.specs.Models.{lists_of}
 use Rattle.session.specs.declared.lists.StepList.{StepList}
 use Rattle.session.specs.declared.models.Model.{Model}
 use Rattle.replay.specs.declared.questions.Question.{Question}
-use Rattle.witness.specs.Spares.{ComesTo}
+use Rattle.witness.specs.Lean.{ComesTo}
 use Rattle.witness.proofs.shortening.shorten.Given as goal
 
 -- the list is still a run to the right, and no longer

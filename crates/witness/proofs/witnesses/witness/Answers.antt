@@ -32,4 +32,4 @@ returns-clause-answer g c =
     let es = c.entities.ensures ∙ ap (λ (L : Lists). L.entities) c.load.ensures in
     let f = rw c.load.ensures at c.if-not-found.ensures in
     let e = c.put.ensures in
-    handed _ (rw es at c.in_ok-question.ensures) c.if-room-lt-STEPS.false f.comes f.spare f.few e.count e.list e.rest e.length
+    handed _ (rw es at c.in_ok-question.ensures) c.if-room-lt-STEPS.false f.comes f.lean f.few e.count e.list e.rest e.length

@@ -9,15 +9,15 @@ use Rattle.fitting.specs.Smalls.{Small}
 use Rattle.session.specs.Rowed.{Rowed}
 use Rattle.replay.specs.declared.courses.Seen.{Seen}
 
--- rows that are kept are those of their account
-abbrev pub Kept : Lists → State → Option Seen → Type 0
-Kept L S seen = IfSome seen (λ s. Rowed L S s.account s.rows.holds.sets s.rows.grants.sets)
+-- rows that are kept tell what their account holds and may grant
+abbrev pub SeenTells : Lists → State → Option Seen → Type 0
+SeenTells L S seen = IfSome seen (λ s. Rowed L S s.account s.rows.holds.sets s.rows.grants.sets)
 
 -- what holds of a run's lists, its state and the rows that are kept, throughout
 pub record Keeps (L : Lists) (S : State) (seen : Option Seen) : Type 0 where
   pub sound : Sound L
   pub small : Small S
-  pub kept : Kept L S seen
+  pub kept : SeenTells L S seen
 
 -- the step leaves the records as they are
 pub record SameRecords (t : Step) : Type 0 where
