@@ -8,13 +8,13 @@ use Rattle.layer.specs.declared.layers.Layer.{Layer}
 use Rattle.layer.specs.declared.changes.Change.{Change}
 use Rattle.layer.specs.declared.changes.Response.{Response}
 use Rattle.layer.specs.Stands.{Stand, stand_of, meant}
-use Rattle.layer.specs.Changes.{changed, stand_after, told}
+use Rattle.layer.specs.Changes.{changed, stand_after, said}
 use Rattle.survey.specs.Pairs.{Paired}
 use Rattle.assess.specs.declared.assessing.Assessment.{Assessment}
 
 -- a response says what the change returns after the changes before it
 abbrev pub Returns : List Change → Change → Response → Type 0
-Returns before change response = told response ≡ (changed (stand_after before) change).response
+Returns before change response = said response ≡ (changed (stand_after before) change).response
 
 -- the layer and its book hold what the changes put together, which is sound, and each change has its response
 pub record Made (changes : List Change) (layer : Layer Book book_catalogue.ghosts) (responses : List Response) : Type 0 where

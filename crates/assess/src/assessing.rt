@@ -16,7 +16,7 @@ use session::Workspace;
 use survey::{Pair, compare, laws_stand};
 
 // The rows of two accounts with the proposals of a layer, and without them.
-#[derive(Clone, Copy)]
+#[derive(Clone, Copy, Debug, PartialEq, Eq)]
 pub struct Assessment {
     pub through_layer: Pair,
     pub through_book: Pair,

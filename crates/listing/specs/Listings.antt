@@ -28,7 +28,7 @@ two_digits n = digit 10 n ∷ digit 1 n ∷ []
 abbrev pub four_digits : ℕ → List ℕ
 four_digits n = digit 1000 n ∷ digit 100 n ∷ digit 10 n ∷ digit 1 n ∷ []
 
--- one where the row has the right of number 6, which is to impersonate, on an account
+-- the digit 1 where the row has the right of number 6, which is to impersonate, on an account, else 0
 abbrev pub mark : List ℕ → ℕ → ℕ
 mark row a = 48 + cond (bit (slice_index row a) 6) 1 0
 

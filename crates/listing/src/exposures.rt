@@ -8,11 +8,9 @@ ghost use Rattle.listing.specs.Exposures.{ones_of, ones, share, Exposed};
 
 use access::Refusal;
 use catalogue::Catalogue;
+use rows::WIDTH;
 use session::Workspace;
 use survey::{judge_accounts, row_of};
-
-// How many bytes a row has.
-pub(crate) const WIDTH: usize = 96;
 
 // Whether a byte of a row has the right of a number.
 #[tactic(auto, using(access::proofs::BitLaws::bit_test))]

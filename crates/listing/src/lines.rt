@@ -1,24 +1,13 @@
 // How the line of an account is written.
 ghost use Rattle.std.specs.Prelude.{◌≡◌, ◌+◌, ◌≤◌, ◌<◌, [], ◌∷◌, length, map};
-ghost use Rattle.access.specs.Lists.{fits, is_account};
 ghost use Rattle.listing.specs.Puts.{Puts};
 ghost use Rattle.listing.specs.Listings.{accounts_of, mark, line_of};
 
 use crate::digits::{put, put_four, put_two};
-use crate::exposures::{WIDTH, exposure_of, has};
-use access::{Entity, Kind};
-
-// The number of the right to impersonate.
-const IMPERSONATE: u8 = 6;
-
-// Whether there is an account of the number.
-pub(crate) fn is_account(entities: &[Entity], n: usize) -> bool
-    ensures { result ≡ fits is_account entities.now n }
-{
-    entities
-        .get(n)
-        .is_some_and(|entity| entity.kind == Kind::Account)
-}
+use crate::exposures::{exposure_of, has};
+use access::{Entity, Right};
+use rows::WIDTH;
+use survey::is_account;
 
 // Writes whether a row has the right to impersonate on an entity.
 fn put_mark(room: &mut [u8], at: usize, row: &[u8; WIDTH], e: usize) -> usize
@@ -26,7 +15,11 @@ fn put_mark(room: &mut [u8], at: usize, row: &[u8; WIDTH], e: usize) -> usize
     requires room { at < length room.old }
     ensures { Puts at (mark row.now e ∷ []) room.old room.new result }
 {
-    put(room, at, b'0' + u8::from(has(row[e], IMPERSONATE)))
+    put(
+        room,
+        at,
+        b'0' + u8::from(has(row[e], u8::from(Right::Impersonate))),
+    )
 }
 
 // Writes whether a row has the right to impersonate on each account.

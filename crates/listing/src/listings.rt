@@ -6,11 +6,11 @@ ghost use Rattle.session.specs.Models.{lists_of};
 ghost use Rattle.listing.specs.Puts.{Puts};
 ghost use Rattle.listing.specs.Listings.{accounts_of, size_of, Listing, listing_answer};
 
-use crate::lines::{is_account, put_line};
+use crate::lines::put_line;
 use access::{Entity, Refusal};
 use catalogue::Catalogue;
 use session::{Model, RunState, Workspace};
-use survey::row_of;
+use survey::{is_account, row_of};
 
 // How many accounts there are.
 #[tactic(auto, using(crate::proofs::Accounts::below_long, crate::proofs::Accounts::long_yes, crate::proofs::Accounts::long_no))]

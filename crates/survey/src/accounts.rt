@@ -6,13 +6,15 @@ ghost use Rattle.access.specs.Lists.{stands as stands_in, fits, is_account};
 ghost use Rattle.survey.specs.Judged.{judged_accounts};
 
 use access::{Entity, Kind, Refusal};
-use catalogue::{kind_at, stands};
+use catalogue::stands;
 
 // Whether there is an account of the number.
-fn is_account(entities: &[Entity], n: u8) -> bool
+pub fn is_account(entities: &[Entity], n: usize) -> bool
     ensures { result ≡ fits is_account entities.now n }
 {
-    kind_at(entities, n) == Some(Kind::Account)
+    entities
+        .get(n)
+        .is_some_and(|entity| entity.kind == Kind::Account)
 }
 
 // Whether there is an entity of each number.
@@ -26,7 +28,7 @@ fn all_stand(entities: &[Entity], numbers: &[u8]) -> bool
 fn are_accounts(entities: &[Entity], numbers: &[u8]) -> bool
     ensures { result ≡ list_all (λ n. fits is_account entities.now n) numbers.now }
 {
-    numbers.iter().all(|n| is_account(entities, *n))
+    numbers.iter().all(|n| is_account(entities, *n as usize))
 }
 
 // Whether the numbers are of accounts, or why they are declined.

@@ -8,7 +8,7 @@ ghost use Rattle.runs.specs.Standing.{Is};
 ghost use Rattle.survey.specs.Used.{IsRow, Compared};
 
 // Whether each of two rows contains the other.
-#[derive(Clone, Copy, PartialEq, Eq)]
+#[derive(Clone, Copy, Debug, PartialEq, Eq)]
 pub struct Comparison {
     pub first_contains: bool,
     pub second_contains: bool,

@@ -8,7 +8,7 @@ mod reaching;
 mod uses;
 mod writing;
 
-pub use accounts::judge_accounts;
+pub use accounts::{is_account, judge_accounts};
 pub use comparing::Comparison;
 pub use laws::laws_stand;
 pub use reaching::{Pair, compare, reach, row_of};

@@ -14,14 +14,12 @@ use crate::comparing::{Comparison, compare_rows};
 use crate::writing::write_row;
 use access::Refusal;
 use catalogue::Catalogue;
+use rows::WIDTH;
 use saturation::saturate;
 use session::{Model, RunState, Workspace};
 
-// How many bytes a row has.
-const WIDTH: usize = 96;
-
 // The rows of two accounts, and which of them contains the other.
-#[derive(Clone, Copy)]
+#[derive(Clone, Copy, Debug, PartialEq, Eq)]
 pub struct Pair {
     pub first: [u8; WIDTH],
     pub second: [u8; WIDTH],
@@ -36,8 +34,8 @@ fn fill_row(model: &Model, state: &mut RunState, account: u8, room: &mut [u8])
     ensures rest { drop 96 room.new ≡ drop 96 room.old }
     ensures len { length room.new ≡ length room.old }
 {
-    saturate(model, state, account);
-    write_row(model, state, room);
+    let mut kept = saturate(model, state, account);
+    write_row(model, state, &mut kept, room);
 }
 
 // The row of an account of a loaded catalogue.
