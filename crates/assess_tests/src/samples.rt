@@ -1,8 +1,8 @@
 // What the tests share.
 use access::{Refusal, RightNumbers};
 use assess::{Assessment, assess};
-use book::{Book, Call};
-use examples::{grant, laboratory_calls};
+use book::Book;
+use examples::{laboratory_calls, without_alter};
 use layer::{Change, Layer, Response};
 use session::Workspace;
 use std::alloc::{AllocError, Global};
@@ -26,19 +26,16 @@ pub const NONE_CONTAINS: Comparison = Comparison {
     second_contains: false,
 };
 
-pub fn laboratory(heap: Global) -> Result<Vec<Change>, AllocError> {
-    laboratory_calls()
-        .into_iter()
-        .map(Change::Build)
-        .collect(heap)
+pub fn laboratory() -> [Change; 10] {
+    laboratory_calls().map(Change::Build)
 }
 
-// The laboratory, where account 4 may not change the table's code.
-pub fn without_alter(heap: Global) -> Result<Vec<Change>, AllocError> {
-    laboratory_calls()
+// The laboratory, where account 4 may not change the table's code, and then these changes.
+pub fn without_alter_then(heap: Global, more: &[Change]) -> Result<Vec<Change>, AllocError> {
+    without_alter()
         .into_iter()
-        .filter(|call| *call != Call::Grant(ALTER))
         .map(Change::Build)
+        .chain(more.iter().copied())
         .collect(heap)
 }
 

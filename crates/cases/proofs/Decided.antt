@@ -23,6 +23,7 @@ use Rattle.access.specs.Places.{place_of}
 use Rattle.order.proofs.RoleLaws.{role_below_lem, linked_roles_lem}
 use Rattle.order.proofs.TreeLaws.{stands_is, below_stands, within_stands}
 use Rattle.catalogue.specs.Sound.{Sound}
+use Rattle.catalogue.specs.Judgements.{in_parent}
 use Rattle.runs.specs.Standing.{Stands, Is, Owns, OneOwner, IsObject, a_procedure, a_trigger, created, entry_right}
 use Rattle.runs.specs.States.{State}
 use Rattle.runs.specs.Rights.{right_record, member_record, Has, by_record, CanGrant, by_option, InRole, as_anyone, as_member, Holds, MayGrant}
@@ -30,7 +31,7 @@ use Rattle.runs.specs.Runs.{MayDo, by_right, by_owner, by_grant, by_alter}
 use Rattle.runs.specs.Saturated.{Plantable}
 use Rattle.runs.proofs.Grounds.{is_stands, role_is, rooted}
 use Rattle.runs.proofs.Ordering.{lower_role}
-use Rattle.cases.proofs.Deciding.{only, more_of, is_parent, is_kind, is_made, owner_is, one_owner, up_from, objects_of, objects_at, numbers, at, isᵇ, are, objects, objectᵇ, chain, above, belowᵇ, role_of, in_roleᵇ, principals, gives, hasᵇ, holdsᵇ, opens, canᵇ, mayᵇ, plantᵇ, ownerᵇ, doesᵇ}
+use Rattle.cases.proofs.Deciding.{only, more_of, is_kind, is_made, owner_is, one_owner, up_from, objects_of, objects_at, numbers, at, isᵇ, are, objects, objectᵇ, chain, above, belowᵇ, role_of, in_roleᵇ, principals, gives, hasᵇ, holdsᵇ, opens, canᵇ, mayᵇ, plantᵇ, ownerᵇ, doesᵇ}
 use Rattle.cases.proofs.TestLaws.{passes, passed, and_left, and_right, and_both, or_cases, or_left, or_right, Passing, any_some, some_any, keep_new, in_only, only_in, in_each, equal_or_not, in_upto, right_eq, kind_eq, mode_eq, found_number, number_found}
 
 more_in : (b : Bool) (f : Unit {0} → List ℕ) (x : ℕ) → x ∈ more_of b f → T (not b) × (x ∈ f tt)
@@ -94,22 +95,22 @@ module _ (L : Lists) where
   true_object x (a_trigger {e = t} i) = true_is kind.Table t i
   true_object x (created {e = c} i q) =
       subst (λ o. T (is_made o)) (sym i.there)
-      (and_both _ _ (subst (λ j. T (eqb (kind_number j) (kind_number kind.Container))) (sym i.kind) tt) (subst (λ m. T (is_parent m)) (sym q) tt))
+      (and_both _ _ (subst (λ j. T (eqb (kind_number j) (kind_number kind.Container))) (sym i.kind) tt) (subst (λ m. T (in_parent m)) (sym q) tt))
 
   in_triggers : (t : ℕ) (a : Event) (b : Bool) → object.Triggers t a ∈ objects_of kind.Table b t
   in_triggers t Inserted b = Memᴰ.head refl
   in_triggers t Updated b = Memᴰ.tail (Memᴰ.head refl)
   in_triggers t Deleted b = Memᴰ.tail (Memᴰ.tail (Memᴰ.head refl))
 
-  objects_there : {k : Kind} {e : ℕ} (x : Object) (i : Is L k e) → x ∈ objects_of k (is_parent i.entity.mode) e → x ∈ objects_at e (at L e)
+  objects_there : {k : Kind} {e : ℕ} (x : Object) (i : Is L k e) → x ∈ objects_of k (in_parent i.entity.mode) e → x ∈ objects_at e (at L e)
   objects_there {k} {e} x i m =
-      subst (λ o. x ∈ objects_at e o) (sym i.there) (subst (λ j. x ∈ objects_of j (is_parent i.entity.mode) e) (sym i.kind) m)
+      subst (λ o. x ∈ objects_at e o) (sym i.there) (subst (λ j. x ∈ objects_of j (in_parent i.entity.mode) e) (sym i.kind) m)
 
   at_place : (x : Object) → IsObject L x → x ∈ objects_at (place_of x) (at L (place_of x))
   at_place x (a_procedure {e = o} i) = objects_there x i (Memᴰ.head refl)
-  at_place x (a_trigger {e = t} {event = a} i) = objects_there x i (in_triggers t a (is_parent i.entity.mode))
+  at_place x (a_trigger {e = t} {event = a} i) = objects_there x i (in_triggers t a (in_parent i.entity.mode))
   at_place x (created {e = c} i q) =
-      objects_there x i (keep_new (is_parent i.entity.mode) (object.Created c) [] (subst (λ m. T (is_parent m)) (sym q) tt))
+      objects_there x i (keep_new (in_parent i.entity.mode) (object.Created c) [] (subst (λ m. T (in_parent m)) (sym q) tt))
 
   place_stands : (x : Object) → IsObject L x → Stands L (place_of x)
   place_stands x (a_procedure i) = is_stands L i

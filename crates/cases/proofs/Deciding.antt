@@ -3,8 +3,6 @@ use Rattle.std.proofs.Common.{ℕ, zero, suc, Bool, true, false, not, eqb, List,
 use Rattle.std.specs.List.{slice_get}
 use Rattle.access.specs.declared.entities.Kind.{Kind}
 use Rattle.access.specs.declared.entities.Kind.TheVariants as kind
-use Rattle.access.specs.declared.entities.Mode.{Mode}
-use Rattle.access.specs.declared.entities.Mode.TheVariants.{Creator, Parent}
 use Rattle.access.specs.declared.entities.Entity.{Entity}
 use Rattle.access.specs.declared.rights.Right.{Right}
 use Rattle.access.specs.declared.rights.Right.TheVariants.{Alter, Impersonate}
@@ -23,6 +21,7 @@ use Rattle.access.specs.Lists.{Lists, stands, public}
 use Rattle.access.specs.Numbers.{right_number, kind_number, rights}
 use Rattle.access.specs.Orders.{role_below}
 use Rattle.access.specs.Places.{place_of}
+use Rattle.catalogue.specs.Judgements.{in_parent}
 use Rattle.runs.specs.declared.steps.Entry.{Entry}
 use Rattle.runs.specs.Standing.{entry_right}
 use Rattle.runs.specs.States.{State, start, pair, acting, done}
@@ -71,10 +70,6 @@ upto zero = []
 upto (suc n) = n ∷ upto n
 
 -- equality
-abbrev pub is_parent : Mode → Bool
-is_parent Creator = false
-is_parent Parent = true
-
 abbrev pub event_code : Event → ℕ
 event_code Inserted = 1
 event_code Updated = 2
@@ -127,7 +122,7 @@ is_kind k (Some x) = eqb (kind_number x.kind) (kind_number k)
 
 abbrev pub is_made : Option Entity → Bool
 is_made None = false
-is_made (Some x) = and_then (eqb (kind_number x.kind) (kind_number kind.Container)) (λ _. is_parent x.mode)
+is_made (Some x) = and_then (eqb (kind_number x.kind) (kind_number kind.Container)) (λ _. in_parent x.mode)
 
 abbrev pub owner_is : ℕ → Option Entity → Bool
 owner_is p None = false
@@ -150,7 +145,7 @@ objects_of kind.Role b e = []
 
 abbrev pub objects_at : ℕ → Option Entity → List Object
 objects_at e None = []
-objects_at e (Some x) = objects_of x.kind (is_parent x.mode) e
+objects_at e (Some x) = objects_of x.kind (in_parent x.mode) e
 
 module _ (L : Lists) where
   abbrev pub numbers : List ℕ

@@ -22,10 +22,11 @@ use Rattle.access.specs.Lists.{◌∈◌}
 use Rattle.access.specs.Numbers.{kind_number, right_number, rights}
 use Rattle.access.specs.Places.{place_of}
 use Rattle.access.proofs.NumberLaws.{same_right}
+use Rattle.catalogue.specs.Judgements.{in_parent}
 use Rattle.runs.specs.declared.steps.Entry.{Entry}
 use Rattle.runs.specs.States.{pair}
 use Rattle.runs.specs.Rights.{right_record, member_record}
-use Rattle.cases.proofs.Deciding.{and_then, or_else, any, every, each, keep, only, upto, same_bool, alike_right, alike_object, alike_record, alike_member, alike_entry, alike_action, alike_line, is_parent, shape, runner_code}
+use Rattle.cases.proofs.Deciding.{and_then, or_else, any, every, each, keep, only, upto, same_bool, alike_right, alike_object, alike_record, alike_member, alike_entry, alike_action, alike_line, shape, runner_code}
 
 pub and_left : (b : Bool) (f : Unit {0} → Bool) → T (and_then b f) → T b
 unfolding and_then
@@ -194,7 +195,7 @@ kind_back kind.Role = refl
 pub kind_eq : (k j : Kind) → T (eqb (kind_number k) (kind_number j)) → k ≡ j
 kind_eq k j h = sym (kind_back k) ∙ ap code_kind (eqb→eq _ _ h) ∙ kind_back j
 
-pub mode_eq : (m : Mode) → T (is_parent m) → m ≡ Parent
+pub mode_eq : (m : Mode) → T (in_parent m) → m ≡ Parent
 mode_eq Creator h = absurd h
 mode_eq Parent h = refl
 

@@ -12,7 +12,8 @@ use Rattle.runs.specs.Rights.{right_record}
 use Rattle.runs.specs.Runs.{UseBy, HoldBy, Use, Hold}
 use Rattle.runs.specs.Laboratory.{lab_steps}
 use Rattle.survey.specs.Used.{IsRow}
-use Rattle.cases.specs.Books.{laboratory, without_alter, by_caller, with_option, with_sysadmin}
+use Rattle.examples.specs.Calls.{laboratory, without_alter}
+use Rattle.cases.specs.Books.{by_caller, with_option, with_sysadmin}
 
 -- a right is used by some account acted as, or held by the opener itself
 pub data Sense : Type 0 where

@@ -1,12 +1,12 @@
 // Building calls by their numbers.
 ghost use Rattle.std.specs.Prelude.{◌≡◌};
-ghost use Rattle.book.specs.declared.calls.Call.TheVariants.{Declare, Link as LinkRoles, Grant, Join, Line};
+ghost use Rattle.examples.specs.Calls.{declare, link, grant, join, line, procedure, triggers};
 
 use access::{EntityNumbers, LineNumbers, Link, Member, ObjectNumbers, RightNumbers};
 use book::Call;
 
 pub fn declare(kind: u8, parent: u8, owner: u8, mode: u8) -> Call
-    ensures { result ≡ Declare (record { kind = kind; parent = parent; owner = owner; mode = mode }) }
+    ensures { result ≡ declare kind parent owner mode }
 {
     Call::Declare(EntityNumbers {
         kind,
@@ -17,13 +17,13 @@ pub fn declare(kind: u8, parent: u8, owner: u8, mode: u8) -> Call
 }
 
 pub fn link(lower: u8, upper: u8) -> Call
-    ensures { result ≡ LinkRoles (record { lower = lower; upper = upper }) }
+    ensures { result ≡ link lower upper }
 {
     Call::Link(Link { lower, upper })
 }
 
 pub fn grant(principal: u8, entity: u8, right: u8, option: u8) -> Call
-    ensures { result ≡ Grant (record { principal = principal; entity = entity; right = right; option = option }) }
+    ensures { result ≡ grant principal entity right option }
 {
     Call::Grant(RightNumbers {
         principal,
@@ -34,13 +34,13 @@ pub fn grant(principal: u8, entity: u8, right: u8, option: u8) -> Call
 }
 
 pub fn join(account: u8, role: u8) -> Call
-    ensures { result ≡ Join (record { account = account; role = role }) }
+    ensures { result ≡ join account role }
 {
     Call::Join(Member { account, role })
 }
 
 pub fn line(object: ObjectNumbers, runner: u8, called: ObjectNumbers) -> Call
-    ensures { result ≡ Line (record { object = object; runner = runner; called = called }) }
+    ensures { result ≡ line object runner called }
 {
     Call::Line(LineNumbers {
         object,
@@ -51,7 +51,7 @@ pub fn line(object: ObjectNumbers, runner: u8, called: ObjectNumbers) -> Call
 
 // The numbers of a procedure.
 pub fn procedure(entity: u8) -> ObjectNumbers
-    ensures { result ≡ record { kind = 0; entity = entity; right = 0 } }
+    ensures { result ≡ procedure entity }
 {
     ObjectNumbers {
         kind: 0,
@@ -62,7 +62,7 @@ pub fn procedure(entity: u8) -> ObjectNumbers
 
 // The numbers of the triggers of a table, by the right that sets them off.
 pub fn triggers(entity: u8, right: u8) -> ObjectNumbers
-    ensures { result ≡ record { kind = 1; entity = entity; right = right } }
+    ensures { result ≡ triggers entity right }
 {
     ObjectNumbers {
         kind: 1,

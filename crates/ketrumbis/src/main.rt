@@ -8,8 +8,8 @@ use listing::listing;
 use session::Workspace;
 use std::io::{Read, Write};
 
-// No image is longer than this, and longer bytes have the fault that this many of them have.
-const LONGEST: u64 = 3605;
+// One byte more than the longest image has: longer input has the fault that this many of its bytes have.
+const MOST: u64 = 3605;
 
 // The listing of sixteen accounts has as many bytes as this, and that of fewer accounts has fewer.
 const ROOM: usize = 400;
@@ -17,7 +17,7 @@ const ROOM: usize = 400;
 fn main(rt: HostRuntime) -> anyhow::Result<()> {
     let heap = rt.alloc();
     let mut bytes = Vec::new(heap);
-    rt.stdin().take(LONGEST).read_to_end(&mut bytes)?;
+    rt.stdin().take(MOST).read_to_end(&mut bytes)?;
     let mut scratch = Book::new(heap)?;
     let mut workspace = Workspace::new(heap)?;
     let mut room = [0; ROOM];

@@ -1,4 +1,4 @@
-// Fills a layer over a book with the laboratory example, with proposals and with calls that are declined, and prints what
+// Fills a layer over a book with the laboratory example, with proposals and with calls that are refused, and prints what
 // happened.
 #![tactic(auto)]
 
@@ -9,7 +9,7 @@ use layer::{Change, Layer, Response};
 use report::print_catalogue;
 use std::alloc::{AllocError, Global};
 
-// A right that stands already gets the option; the others are declined.
+// A right that stands already gets the option; the others are refused.
 fn more_calls() -> [Call; 4] {
     [
         grant(4, 7, 5, 1),
@@ -19,12 +19,12 @@ fn more_calls() -> [Call; 4] {
     ]
 }
 
-// The first account past the sixteenth is declined.
+// The first account past the sixteenth is refused.
 const FIRST_ACCOUNT: u8 = 9;
 
 const LAST_ACCOUNT: u8 = 22;
 
-// Two proposals above the book, one of which is taken back.
+// Four proposals above the book: two are taken, two refused, and the latest is taken back.
 const PROPOSALS: [Change; 5] = [
     Change::ProposeRight(RightNumbers {
         principal: 8,

@@ -2,8 +2,8 @@
 #![tactic(auto)]
 
 use access::QuestionNumbers;
-use book::{Book, Call, fill};
-use examples::{STEPS, grant, laboratory_calls};
+use book::Call;
+use examples::{STEPS, build, laboratory_calls, without_alter};
 use replay::replay;
 use session::Workspace;
 
@@ -21,32 +21,23 @@ fn run_on(
     workspace: &mut Workspace,
     calls: &[Call],
 ) -> anyhow::Result<()> {
-    let heap = rt.alloc();
-    let mut answers = vec![in heap; Ok(0); calls.len()]?;
-    let mut book = Book::new(heap)?;
-    fill(&mut book, calls, &mut answers)?;
+    let book = build(rt.alloc(), calls)??;
     book.sound();
     match replay(workspace, &book, QUESTION, &STEPS) {
         Ok(()) => println!(rt; "accepted: a session of account 4 can impersonate account 3")?,
-        Err(refusal) => println!(rt; "declined: {refusal}")?,
+        Err(refusal) => println!(rt; "refused: {refusal}")?,
     }
     Ok(())
 }
 
 fn main(rt: HostRuntime) -> anyhow::Result<()> {
-    let heap = rt.alloc();
-    let mut workspace = Workspace::new(heap)?;
-    let laboratory = laboratory_calls();
-    let without_alter: Vec<Call> = laboratory
-        .into_iter()
-        .filter(|call| *call != grant(4, 6, 4, 0))
-        .collect(heap)?;
+    let mut workspace = Workspace::new(rt.alloc())?;
     println!(rt; "the steps:")?;
     for (i, step) in STEPS.iter().enumerate() {
         println!(rt; "  {i}: {step}")?;
     }
     println!(rt; "in the laboratory")?;
-    run_on(&rt, &mut workspace, &laboratory)?;
+    run_on(&rt, &mut workspace, &laboratory_calls())?;
     println!(rt; "without the right to alter the table")?;
-    run_on(&rt, &mut workspace, &without_alter)
+    run_on(&rt, &mut workspace, &without_alter())
 }

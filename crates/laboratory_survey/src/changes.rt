@@ -1,7 +1,6 @@
 // The changes that make the laboratory, and the same without one right, or with it proposed.
 use access::RightNumbers;
-use book::Call;
-use examples::laboratory_calls;
+use examples::{laboratory_calls, without_alter};
 use layer::Change;
 use std::alloc::{AllocError, Global};
 
@@ -13,23 +12,17 @@ const ALTER: RightNumbers = RightNumbers {
     option: 0,
 };
 
-pub fn laboratory(heap: Global) -> Result<Vec<Change>, AllocError> {
-    laboratory_calls()
-        .into_iter()
-        .map(Change::Build)
-        .collect(heap)
+pub fn laboratory() -> [Change; 10] {
+    laboratory_calls().map(Change::Build)
 }
 
-pub fn without_alter(heap: Global) -> Result<Vec<Change>, AllocError> {
-    laboratory_calls()
-        .into_iter()
-        .filter(|call| *call != Call::Grant(ALTER))
-        .map(Change::Build)
-        .collect(heap)
+pub fn without_right() -> [Change; 9] {
+    without_alter().map(Change::Build)
 }
 
 pub fn with_proposal(heap: Global) -> Result<Vec<Change>, AllocError> {
-    let mut changes = without_alter(heap)?;
-    changes.push(Change::ProposeRight(ALTER))?;
-    Ok(changes)
+    without_right()
+        .into_iter()
+        .chain([Change::ProposeRight(ALTER)])
+        .collect(heap)
 }

@@ -4,16 +4,16 @@
 mod changes;
 mod rooms;
 
-use changes::{laboratory, with_proposal, without_alter};
+use changes::{laboratory, with_proposal, without_right};
 use rooms::{Rooms, print_case};
 
 fn main(rt: HostRuntime) -> anyhow::Result<()> {
     let heap = rt.alloc();
     let mut rooms = Rooms::new(heap)?;
     println!(rt; "in the laboratory")?;
-    print_case(&rt, &mut rooms, &laboratory(heap)?)?;
+    print_case(&rt, &mut rooms, &laboratory())?;
     println!(rt; "without the right of account 4 to alter table 6")?;
-    print_case(&rt, &mut rooms, &without_alter(heap)?)?;
+    print_case(&rt, &mut rooms, &without_right())?;
     println!(rt; "without this right in the book, and with it proposed in the layer above")?;
     print_case(&rt, &mut rooms, &with_proposal(heap)?)
 }

@@ -1,18 +1,14 @@
 // The exposures and the listing of two accounts, of which the first may impersonate the second, and what is declined.
 use access::Refusal;
-use book::{Book, apply};
-use examples::{declare, grant};
+use book::Book;
+use examples::{build, pair_calls};
 use listing::{exposure, listing};
 use session::Workspace;
 use std::test::Fail;
 
 // Accounts 3 and 4, of which the first may impersonate the second.
 fn pair(rt: &impl AllocGlobal) -> Result<Book, Fail> {
-    let mut book = Book::new(rt.alloc())?;
-    apply(&mut book, declare(3, 0, 3, 0))?;
-    apply(&mut book, declare(3, 0, 4, 0))?;
-    apply(&mut book, grant(3, 4, 6, 0))?;
-    Ok(book)
+    Ok(build(rt.alloc(), &pair_calls())??)
 }
 
 #[test]

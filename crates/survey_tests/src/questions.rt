@@ -15,15 +15,6 @@ pub const MARK: Step = Step::Switch {
     to: 255,
 };
 
-pub fn asks(account: u8, sense: u8, entity: u8, right: u8) -> QuestionNumbers {
-    QuestionNumbers {
-        account,
-        sense,
-        entity,
-        right,
-    }
-}
-
 // The row of an account.
 pub fn row(rt: &impl AllocGlobal, book: &Book, account: u8) -> Result<[u8; 96], Fail> {
     let mut workspace = Workspace::new(rt.alloc())?;

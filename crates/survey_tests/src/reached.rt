@@ -24,7 +24,7 @@ fn compares(
         first_contains,
         second_contains,
     };
-    assert!(rt; found.comparison == expected);
+    assert_eq!(rt; found.comparison, expected);
     Ok(())
 }
 

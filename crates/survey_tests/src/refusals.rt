@@ -1,7 +1,8 @@
 // What is declined, by the first row of the refusals that applies, and that nothing changes then.
-use crate::books::{IMPERSONATE, USE, pair};
-use crate::questions::{MARK, asks, full};
+use crate::books::pair;
+use crate::questions::{MARK, full};
 use access::{QuestionNumbers, Refusal};
+use examples::{IMPERSONATE, USE, question};
 use session::Workspace;
 use std::process::Abort;
 use std::test::Fail;
@@ -28,7 +29,7 @@ fn no_row(
 // The steps of a question about the pair are declined, and every place of the room stays.
 fn no_steps(
     rt: &(impl Abort + AllocGlobal),
-    question: QuestionNumbers,
+    asked: QuestionNumbers,
     places: usize,
     refusal: Refusal,
 ) -> Result<(), Fail> {
@@ -36,7 +37,7 @@ fn no_steps(
     let mut workspace = Workspace::new(rt.alloc())?;
     let mut room = vec![in rt.alloc(); MARK; places]?;
     book.sound();
-    let answer = witness(&mut workspace, &book, question, &mut room);
+    let answer = witness(&mut workspace, &book, asked, &mut room);
     assert_eq!(rt; answer, Err(refusal));
     assert!(rt; room.iter().all(|step| *step == MARK));
     Ok(())
@@ -104,16 +105,16 @@ fn a_comparison_wants_two_accounts(rt: HostRuntime) -> Result<(), Fail> {
 #[test]
 fn a_question_wants_what_is_listed_and_then_4096_places(rt: HostRuntime) -> Result<(), Fail> {
     let questions = [
-        (asks(3, USE, 4, 7), Refusal::NotListed),
-        (asks(3, 2, 4, IMPERSONATE), Refusal::NotListed),
-        (asks(5, USE, 4, IMPERSONATE), Refusal::NotListed),
-        (asks(3, USE, 5, IMPERSONATE), Refusal::NotListed),
-        (asks(2, USE, 4, 7), Refusal::NotListed),
-        (asks(2, USE, 4, IMPERSONATE), Refusal::WrongKind),
+        (question(3, USE, 4, 7), Refusal::NotListed),
+        (question(3, 2, 4, IMPERSONATE), Refusal::NotListed),
+        (question(5, USE, 4, IMPERSONATE), Refusal::NotListed),
+        (question(3, USE, 5, IMPERSONATE), Refusal::NotListed),
+        (question(2, USE, 4, 7), Refusal::NotListed),
+        (question(2, USE, 4, IMPERSONATE), Refusal::WrongKind),
     ];
-    for (question, refusal) in questions {
-        no_steps(&rt, question, 4096, refusal)?;
-        no_steps(&rt, question, 4095, refusal)?;
+    for (asked, refusal) in questions {
+        no_steps(&rt, asked, 4096, refusal)?;
+        no_steps(&rt, asked, 4095, refusal)?;
     }
     Ok(())
 }
@@ -122,9 +123,9 @@ fn a_question_wants_what_is_listed_and_then_4096_places(rt: HostRuntime) -> Resu
 fn too_little_room_is_declined_for_a_yes_and_for_a_no(rt: HostRuntime) -> Result<(), Fail> {
     for account in [3, 4] {
         for entity in [3, 4] {
-            let question = asks(account, USE, entity, IMPERSONATE);
-            no_steps(&rt, question, 4095, Refusal::NoRoom)?;
-            no_steps(&rt, question, 0, Refusal::NoRoom)?;
+            let asked = question(account, USE, entity, IMPERSONATE);
+            no_steps(&rt, asked, 4095, Refusal::NoRoom)?;
+            no_steps(&rt, asked, 0, Refusal::NoRoom)?;
         }
     }
     Ok(())

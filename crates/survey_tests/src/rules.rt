@@ -1,8 +1,11 @@
 // Books in which one record more or less turns a yes into a no.
-use crate::books::{ALTER, EXECUTE, HOLD, IMPERSONATE, SELECT, USE, build, changed, pair};
-use crate::questions::{asks, comes};
+use crate::books::{changed, pair};
+use crate::questions::comes;
 use book::{Book, Call, apply};
-use examples::{declare, grant, join, line, link, procedure};
+use examples::{
+    ALTER, EXECUTE, HOLD, IMPERSONATE, SELECT, USE, build, declare, grant, join, line, link,
+    procedure, question,
+};
 use std::process::Abort;
 use std::test::Fail;
 
@@ -12,14 +15,14 @@ fn takes_over(
     book: &Book,
     expected: Option<usize>,
 ) -> Result<(), Fail> {
-    comes(rt, book, asks(3, USE, 4, IMPERSONATE), expected)
+    comes(rt, book, question(3, USE, 4, IMPERSONATE), expected)
 }
 
 #[test]
 fn a_switch_wants_impersonate(rt: HostRuntime) -> Result<(), Fail> {
     let book = pair(&rt)?;
-    comes(&rt, &book, asks(3, USE, 4, SELECT), Some(1))?;
-    comes(&rt, &book, asks(4, USE, 3, SELECT), None)
+    comes(&rt, &book, question(3, USE, 4, SELECT), Some(1))?;
+    comes(&rt, &book, question(4, USE, 3, SELECT), None)
 }
 
 // Account 4 may select from all, with or without the option; 3 acts as 4.
@@ -32,9 +35,9 @@ fn granting(rt: &impl AllocGlobal, option: u8) -> Result<Book, Fail> {
 #[test]
 fn a_grant_wants_the_option_on_the_entity_itself(rt: HostRuntime) -> Result<(), Fail> {
     let book = granting(&rt, 1)?;
-    comes(&rt, &book, asks(3, HOLD, 0, SELECT), Some(2))?;
-    comes(&rt, &book, asks(3, HOLD, 1, SELECT), Some(2))?;
-    comes(&rt, &granting(&rt, 0)?, asks(3, HOLD, 0, SELECT), None)
+    comes(&rt, &book, question(3, HOLD, 0, SELECT), Some(2))?;
+    comes(&rt, &book, question(3, HOLD, 1, SELECT), Some(2))?;
+    comes(&rt, &granting(&rt, 0)?, question(3, HOLD, 0, SELECT), None)
 }
 
 // Role 4, which may select from all, below role 5; account 3 has a right on the upper.
@@ -47,12 +50,12 @@ fn roles(rt: &impl AllocGlobal, right: u8) -> Result<Book, Fail> {
         grant(4, 0, SELECT, 0),
         grant(3, 5, right, 0),
     ];
-    build(rt, &calls)
+    Ok(build(rt.alloc(), &calls)??)
 }
 
 #[test]
 fn a_join_wants_alter_on_the_role(rt: HostRuntime) -> Result<(), Fail> {
-    let asked = asks(3, HOLD, 0, SELECT);
+    let asked = question(3, HOLD, 0, SELECT);
     comes(&rt, &roles(&rt, ALTER)?, asked, Some(1))?;
     let mut book = roles(&rt, EXECUTE)?;
     comes(&rt, &book, asked, None)?;
@@ -80,7 +83,7 @@ fn two_owners() -> [Call; 11] {
 #[test]
 fn a_call_wants_execute(rt: HostRuntime) -> Result<(), Fail> {
     let calls = two_owners();
-    takes_over(&rt, &build(&rt, &calls)?, Some(4))?;
+    takes_over(&rt, &build(rt.alloc(), &calls)??, Some(4))?;
     let (old, new) = (grant(3, 7, EXECUTE, 0), grant(3, 7, SELECT, 0));
     takes_over(&rt, &changed(&rt, &calls, old, new)?, None)
 }
@@ -120,8 +123,8 @@ fn one_owner(owner: u8) -> [Call; 10] {
 
 #[test]
 fn a_line_between_objects_of_one_owner_wants_none(rt: HostRuntime) -> Result<(), Fail> {
-    takes_over(&rt, &build(&rt, &one_owner(5))?, Some(4))?;
-    takes_over(&rt, &build(&rt, &one_owner(2))?, None)
+    takes_over(&rt, &build(rt.alloc(), &one_owner(5))??, Some(4))?;
+    takes_over(&rt, &build(rt.alloc(), &one_owner(2))??, None)
 }
 
 // A procedure of sysadmin that calls itself as account 4; account 3 may call it and has one more right on it.
@@ -135,7 +138,7 @@ fn entered(rt: &impl AllocGlobal, right: u8) -> Result<Book, Fail> {
         grant(3, 6, EXECUTE, 0),
         grant(3, 6, right, 0),
     ];
-    build(rt, &calls)
+    Ok(build(rt.alloc(), &calls)??)
 }
 
 #[test]
@@ -159,7 +162,7 @@ fn lending(rt: &impl AllocGlobal, owner: u8) -> Result<Book, Fail> {
         grant(3, 7, ALTER, 0),
         grant(4, 7, EXECUTE, 0),
     ];
-    build(rt, &calls)
+    Ok(build(rt.alloc(), &calls)??)
 }
 
 #[test]

@@ -1,6 +1,5 @@
-use Rattle.std.proofs.Common.{refl}
 use Rattle.cases.proofs.Cases.{each_case}
 use Rattle.cases.proofs.cases_stand.Goals as goal
 
 pub returns : goal.returns
-returns c = record { built = refl; cases = each_case }
+returns c = each_case
