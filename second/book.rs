@@ -16,6 +16,7 @@ pub const RIGHTS: usize = 7;
 pub const PUBLIC: usize = 1;
 pub const SYSADMIN: usize = 2;
 
+#[derive(Clone)]
 pub struct Entity {
     pub kind: u8,
     pub parent: usize,
@@ -31,6 +32,7 @@ pub type Member = (usize, usize);
 /// An object of a catalogue line: its kind (0 for P, 1 for T), entity and right.
 pub type Place = (u8, usize, usize);
 
+#[derive(Clone)]
 pub struct Line {
     pub place: Place,
     /// None is the caller.
@@ -38,7 +40,7 @@ pub struct Line {
     pub called: Place,
 }
 
-#[derive(Default)]
+#[derive(Clone, Default)]
 pub struct Book {
     pub entities: Vec<Entity>,
     pub links: Vec<(usize, usize)>,
@@ -48,12 +50,22 @@ pub struct Book {
 }
 
 impl Book {
+    /// The root, owned by sysadmin, and the roles public and sysadmin.
+    pub fn new() -> Book {
+        let first = |kind| Entity { kind, parent: 0, owner: SYSADMIN, mode: 0 };
+        Book { entities: vec![first(CONTAINER), first(ROLE), first(ROLE)], ..Book::default() }
+    }
+
+    pub fn stands(&self, entity: usize) -> bool {
+        entity < self.entities.len()
+    }
+
     pub fn of_kind(&self, kind: u8) -> Vec<usize> {
         (0..self.entities.len()).filter(|&e| self.entities[e].kind == kind).collect()
     }
 
     pub fn is(&self, entity: usize, kind: u8) -> bool {
-        entity < self.entities.len() && self.entities[entity].kind == kind
+        self.stands(entity) && self.entities[entity].kind == kind
     }
 
     pub fn is_principal(&self, entity: usize) -> bool {
@@ -109,19 +121,29 @@ impl Powers {
                 }
             }
             names.insert(account);
-            for entity in 0..n {
-                let way = book.upward(entity);
-                let owns = way.iter().any(|&at| names.contains(&book.entities[at].owner));
-                for right in 0..RIGHTS {
-                    let record =
-                        |at: usize, option: bool| names.iter().any(|&p| rights.contains(&(p, at, right, option)));
-                    let place = powers.place(account, right, entity);
-                    powers.holds[place] = owns || way.iter().any(|&at| record(at, false) || record(at, true));
-                    powers.grants[place] = owns || record(entity, true);
-                }
-            }
+            powers.account(book, account, &names, rights);
         }
         powers
+    }
+
+    fn account(&mut self, book: &Book, account: usize, names: &BTreeSet<usize>, rights: &BTreeSet<Right>) {
+        let mut recorded = vec![[(false, false); RIGHTS]; self.entities];
+        for &(principal, entity, right, option) in rights {
+            if names.contains(&principal) {
+                let (any, with_option) = &mut recorded[entity][right];
+                *any = true;
+                *with_option |= option;
+            }
+        }
+        for entity in 0..self.entities {
+            let way = book.upward(entity);
+            let owns = way.iter().any(|&at| names.contains(&book.entities[at].owner));
+            for right in 0..RIGHTS {
+                let place = self.place(account, right, entity);
+                self.holds[place] = owns || way.iter().any(|&at| recorded[at][right].0);
+                self.grants[place] = owns || recorded[entity][right].1;
+            }
+        }
     }
 
     fn place(&self, account: usize, right: usize, entity: usize) -> usize {

@@ -1,286 +1,44 @@
 #!/usr/bin/env python3
-"""Compares `ketrumbis` with the program of this folder: see README.md"""
+"""Compares `ketrumbis` and `console` with the program of this folder: see README.md"""
 
 import argparse
 import collections
 import concurrent.futures
+import itertools
 import os
 import pathlib
 import random
 import subprocess
 import sys
+import threading
 
-HERE = pathlib.Path(__file__).resolve().parent
-ROOT = HERE.parent
+import corpus
+import scripts
+from books import HERE, ROOT, SECOND
+from books import any_records, bytes_damaged, full_lists, image, large, lists_changed, small, woven
+
 FIRST = ROOT / "crates/ketrumbis/out/ketrumbis"
-SECOND = HERE / "out/second"
-
-CONTAINER, TABLE, PROCEDURE, ACCOUNT, ROLE = range(5)
-MOST_OF_KIND = [16, 16, 32, 16, 16]
-SIZES = [4, 2, 4, 2, 7]
-MOST = [96, 64, 256, 128, 256]
-NEW = [(0, 0, 2, 0), (4, 0, 2, 0), (4, 0, 2, 0)]
-CALLER = 255
+CONSOLE = ROOT / "crates/console/out/console"
 
 
-def build():
-    with open(ROOT / "crates/ketrumbis/stdin", "rb") as image:
-        made = subprocess.run(["rt", "run"], cwd=ROOT / "crates/ketrumbis", stdin=image, capture_output=True)
-    if made.returncode != 0:
-        sys.exit(made.stderr.decode())
+def build_second():
     SECOND.parent.mkdir(exist_ok=True)
     subprocess.run(["rustc", "-O", "--edition", "2021", "-o", SECOND, HERE / "main.rs"], check=True)
 
 
-def image(bodies):
-    """The bytes of five lists of records."""
-    contents, at = b"", 20
-    for size, body in zip(SIZES, bodies):
-        contents += at.to_bytes(2, "big") + len(body).to_bytes(2, "big")
-        at += size * len(body)
-    return contents + b"".join(bytes(record) for body in bodies for record in body)
+def build_proved(name):
+    with open(ROOT / f"crates/{name}/stdin", "rb") as given:
+        made = subprocess.run(["rt", "run"], cwd=ROOT / f"crates/{name}", stdin=given, capture_output=True)
+    if made.returncode != 0:
+        sys.exit(made.stderr.decode())
 
 
-class Draft:
-    """A book that is put together at random by the rules of the building calls."""
-
-    def __init__(self, rng, want, records):
-        self.rng = rng
-        self.entities = list(NEW)
-        todo = [kind for kind in range(5) for _ in range(want[kind])]
-        rng.shuffle(todo)
-        if rng.random() < 0.7:  # accounts first can own more
-            todo.sort(key=lambda kind: kind != ACCOUNT)
-        for kind in todo:
-            self.declare(kind)
-        self.sysadmin = rng.random() < 0.15
-        links, rights, members, lines = records
-        self.links = self.gather(links, self.link)
-        self.rights = self.gather(rights, self.right, 3)
-        self.members = self.gather(members, self.member)
-        self.lines = self.gather(lines, self.line)
-
-    def bodies(self):
-        return [self.entities, self.links, self.rights, self.members, self.lines]
-
-    def of(self, *kinds):
-        return [e for e, record in enumerate(self.entities) if record[0] in kinds]
-
-    def declare(self, kind):
-        rng, number = self.rng, len(self.entities)
-        if len(self.of(kind)) == MOST_OF_KIND[kind]:
-            return
-        accounts = self.of(ACCOUNT)
-        owner = rng.choice(accounts if accounts and rng.random() < 0.85 else self.of(ACCOUNT, ROLE))
-        parent, mode = 0, 0
-        if kind == ACCOUNT:
-            owner = number
-        elif kind != ROLE:
-            fit = [c for c in self.of(CONTAINER) if kind == CONTAINER or self.entities[c][3] == 1]
-            if not fit:
-                return self.declare(CONTAINER)
-            parent = rng.choice(fit)
-            mode = int(kind == CONTAINER and rng.random() < 0.75)
-            if self.entities[parent][3] == 1:
-                owner = self.entities[parent][2]
-        self.entities.append((kind, parent, owner, mode))
-
-    def gather(self, count, make, key=None):
-        found = {}
-        for _ in range(3 * count):
-            record = make()
-            if record is not None and len(found) < count:
-                found.setdefault(record[:key], record)
-        return list(found.values())
-
-    def link(self):
-        # Upward from 0, 1, 3, 4, ... in an order of their numbers by a fixed shuffle; public in the middle.
-        roles = [r for r in self.of(ROLE) if r != 2]
-        random.Random(len(self.entities)).shuffle(roles)
-        if len(roles) < 2:
-            return (1, 2)
-        low, high = sorted(self.rng.sample(range(len(roles)), 2))
-        return (roles[low], 2 if self.rng.random() < 0.05 else roles[high])
-
-    def right(self):
-        rng = self.rng
-        who = [p for p in self.of(ACCOUNT, ROLE) if p > 2] * 3 + [1]
-        right = rng.choice([1, 2, 3, 4, 4, 4, 4, 5, 5, 5, 6, 6, 6, 0])
-        kinds = {4: (CONTAINER, TABLE, PROCEDURE, ROLE), 5: (CONTAINER, PROCEDURE), 6: (ACCOUNT,)}.get(right, (TABLE,))
-        fit = self.of(*kinds) if rng.random() < 0.9 else list(range(len(self.entities)))
-        fit = [e for e in fit if e != 0 or rng.random() < 0.05]
-        if not fit:
-            return None
-        return (rng.choice(who), rng.choice(fit), right, int(rng.random() < 0.3))
-
-    def member(self):
-        accounts = self.of(ACCOUNT)
-        role = self.rng.choice(self.of(ROLE))
-        if not accounts or (role == 2 and not self.sysadmin):
-            return None
-        return (self.rng.choice(accounts), role)
-
-    def place(self):
-        tables, procedures = self.of(TABLE), self.of(PROCEDURE)
-        if procedures and (not tables or self.rng.random() < 0.6):
-            return (0, self.rng.choice(procedures), 0)
-        return (1, self.rng.choice(tables), self.rng.randint(1, 3)) if tables else None
-
-    def line(self):
-        at, called, accounts = self.place(), self.place(), self.of(ACCOUNT)
-        if at is None:
-            return None
-        runner = self.rng.choice(accounts) if accounts and self.rng.random() < 0.6 else CALLER
-        return (*at, runner, *called)
-
-
-class Woven(Draft):
-    """A book in which two or three principals own all containers, and few others may alter and enter what is theirs."""
-
-    last = None
-    wide = None
-
-    def declare(self, kind):
-        super().declare(kind)
-        made, parent, owner, mode = self.entities[-1]
-        if made == CONTAINER and self.entities[parent][3] == 0:
-            owners = [p for p in self.of(ACCOUNT, ROLE) if p > 2][: 2 + len(self.entities) % 2]
-            self.entities[-1] = (made, parent, self.rng.choice(owners or [owner]), mode)
-
-    def right(self):
-        rng = self.rng
-        if self.wide is None:
-            self.wide = rng.choice([0.1, 0.3, 0.8])
-        if self.last and rng.random() < 0.6:
-            who, entity = self.last
-        else:
-            owners = {record[2] for record in self.entities if record[0] == CONTAINER}
-            free = [p for p in self.of(ACCOUNT, ROLE) if p > 2 and p not in owners] or self.of(ACCOUNT)
-            fit = self.of(PROCEDURE, TABLE) + (self.of(CONTAINER)[1:] if rng.random() < self.wide else [])
-            if not fit:
-                return None
-            who, entity = rng.choice(free), rng.choice(fit)
-        self.last = who, entity
-        right = rng.choice([1, 4, 4, 5, 5] if self.entities[entity][0] == TABLE else [4, 5])
-        return (who, entity, right, int(rng.random() < 0.35))
-
-    def line(self):
-        made = super().line()
-        if made and self.rng.random() < 0.7 and self.entities[made[1]][2] == self.entities[made[5]][2]:
-            return None
-        return made
-
-
-def woven(rng):
-    want = [rng.randint(2, 4), rng.randint(0, 2), rng.randint(1, 4), rng.randint(3, 5), rng.randint(0, 2)]
-    return Woven(rng, want, (rng.randint(0, 2), rng.randint(2, 9), rng.randint(0, 3), rng.randint(1, 9)))
-
-
-def small(rng):
-    want = [rng.randint(1, 3), rng.randint(0, 2), rng.randint(0, 3), rng.randint(1, 4), rng.randint(0, 3)]
-    some = rng.choice([2, 4, 7, 12])
-    return Draft(rng, want, (rng.randint(0, 4), rng.randint(1, some), rng.randint(0, 3), rng.randint(0, some + 2)))
-
-
-def large(rng):
-    want = [rng.randint(2, 9), rng.randint(1, 8), rng.randint(1, 12), rng.randint(4, 9), rng.randint(1, 9)]
-    return Draft(rng, want, (rng.randint(0, 20), rng.randint(4, 24), rng.randint(0, 10), rng.randint(0, 40)))
-
-
-def lists_changed(rng):
-    """The lists of a good book with a few fields, places or records changed."""
-    bodies = [list(body) for body in (large if rng.random() < 0.3 else small)(rng).bodies()]
-    count = len(bodies[0])
-    for _ in range(rng.choice([1, 1, 1, 2, 3])):
-        some = [b for b in bodies if b and (b is not bodies[0] or rng.random() < 0.5)]
-        body = rng.choice(some or bodies[:1])
-        at, way = rng.randrange(len(body)), rng.random()
-        if way < 0.6:
-            record = list(body[at])
-            field = rng.choice([0, 1, 2, 3, 4, 5, 6, 7, rng.randrange(count + 2), 255, 254])
-            record[rng.randrange(len(record))] = field
-            body[at] = tuple(record)
-        elif way < 0.75:
-            record = list(rng.choice(body))
-            if len(record) == 4 and rng.random() < 0.5:
-                record[3] ^= 1
-            body.insert(rng.randrange(at, len(body) + 1), tuple(record))
-        elif way < 0.9:
-            body.insert(at, body.pop(rng.randrange(len(body))))
-        else:
-            del body[at]
-    return image(bodies)
-
-
-def any_records(rng):
-    """Three first entities and then records of small numbers."""
-    bodies = [list(NEW), [], [], [], []]
-    for _ in range(rng.randint(0, 5)):
-        n = len(bodies[0])
-        kind = rng.randrange(5)
-        parent, owner = rng.choice([0, 0, 0, rng.randrange(n)]), rng.choice([n, 2, rng.randrange(n)])
-        bodies[0].append((kind, parent, owner, rng.choice([0, 0, 1])))
-    n = len(bodies[0])
-    for part in range(1, 5):
-        for _ in range(rng.choice([0, 0, 1, 2])):
-            bodies[part].append(tuple(rng.choice([0, 1, rng.randrange(n + 1), 255]) for _ in range(SIZES[part])))
-    return image(bodies)
-
-
-def full_lists(rng):
-    """A list or a kind of entity at its limit, or one past it."""
-    past = rng.random() < 0.5
-    which = rng.randrange(9)
-    bodies = [list(NEW), [], [], [], []]
-    names = bodies[0]
-    names.append((ACCOUNT, 0, 3, 0))
-    names.append((CONTAINER, 0, 3, 1))
-    made = {ACCOUNT: 1, CONTAINER: 2, ROLE: 2}
-    more = {5: {ROLE: 14}, 6: {TABLE: 4, ACCOUNT: 2}, 7: {ACCOUNT: 9, ROLE: 14}, 8: {TABLE: 2, PROCEDURE: 6}}
-    fill = more.get(which, {})
-    for kind in range(5):
-        need = MOST_OF_KIND[kind] + past if kind == which else made.get(kind, 0) + fill.get(kind, 0)
-        for _ in range(need - made.get(kind, 0)):
-            n = len(names)
-            parent = 4 if kind in (TABLE, PROCEDURE) else 0
-            names.append((kind, parent, n if kind == ACCOUNT else 3, int(kind == CONTAINER)))
-    of = lambda kind: [e for e, record in enumerate(names) if record[0] == kind]
-    if which == 5:
-        roles = [r for r in of(ROLE) if r != 2]
-        pool = [(a, b) for i, a in enumerate(roles) for b in roles[i + 1:]]
-    elif which == 6:
-        every = [(p, e, r) for p in of(ACCOUNT) + of(ROLE) for e in range(len(names)) for r in range(7)]
-        pool = [(*record, rng.randrange(2)) for record in every]
-    elif which == 7:
-        pool = [(a, r) for a in of(ACCOUNT) for r in of(ROLE)]
-    else:
-        places = [(0, p, 0) for p in of(PROCEDURE)] + [(1, t, r) for t in of(TABLE) for r in (1, 2, 3)]
-        pool = [(*x, w, *y) for x in places for y in places for w in of(ACCOUNT) + [CALLER]]
-    if which >= 5:
-        rng.shuffle(pool)
-        bodies[which - 4] = pool[: MOST[which - 4] + past]
-    return image(bodies)
-
-
-def bytes_damaged(rng, examples):
-    data = bytearray(rng.choice(examples) if rng.random() < 0.2 else image(small(rng).bodies()))
-    way = rng.random()
-    if way < 0.55:
-        for _ in range(rng.choice([1, 1, 2, 4])):
-            at = rng.randrange(min(20, len(data)) if rng.random() < 0.3 else len(data))
-            data[at] = rng.choice([rng.randrange(256), rng.randrange(8), (data[at] + 1) % 256, (data[at] - 1) % 256])
-    elif way < 0.75:
-        del data[rng.randrange(len(data)):]
-    elif way < 0.95:
-        data += rng.randbytes(rng.choice([1, 2, 4, 7, 300, 3604, 5000, 70000]))
-    else:
-        data = bytearray(rng.randbytes(rng.randrange(60)))
-    return bytes(data)
+def examples():
+    return [path.read_bytes() for path in sorted((ROOT / "examples").glob("*.image"))]
 
 
 def cases(seeds, count):
-    examples = [path.read_bytes() for path in sorted((ROOT / "examples").glob("*.image"))]
-    for data in examples:
+    for data in examples():
         yield "example", data
     yield "empty", b""
     for seed in seeds:
@@ -300,13 +58,12 @@ def cases(seeds, count):
             elif pick < 0.83:
                 yield f"full lists {seed} {number}", full_lists(rng)
             else:
-                yield f"bytes damaged {seed} {number}", bytes_damaged(rng, examples)
+                yield f"bytes damaged {seed} {number}", bytes_damaged(rng, examples())
 
 
 def every_byte():
     """Each example cut at every byte, and with each value in place of every byte."""
-    for path in sorted((ROOT / "examples").glob("*.image")):
-        data = path.read_bytes()
+    for data in examples():
         for at in range(len(data)):
             yield f"cut {at}", data[:at]
             for value in range(256):
@@ -323,19 +80,9 @@ def act(listing):
     return any(line.split()[1].count(b"1") > 1 for line in listing.splitlines())
 
 
-def main():
-    options = argparse.ArgumentParser(description=__doc__)
-    options.add_argument("--as-built", action="store_true", help="build nothing")
-    options.add_argument("--cases", type=int, default=200, help="cases for each seed")
-    options.add_argument("--extent", choices=["full", "short"], help="what the second program plants; else by size")
-    options.add_argument("--every-byte", action="store_true", help="instead: the examples with every byte changed")
-    options.add_argument("seed", nargs="*", default=["1", "2", "3"])
-    options = options.parse_args()
-    if not options.as_built:
-        build()
+def compare_images(options):
     second = [SECOND] + ([options.extent] if options.extent else [])
     counts, faults, differ = collections.Counter(), collections.Counter(), None
-
     images = every_byte() if options.every_byte else cases(options.seed, options.cases)
 
     def both(case):
@@ -361,6 +108,148 @@ def main():
     if differ:
         name, data, ours, theirs = differ
         print(f"first difference: {name}\n{data.hex()}\nketrumbis:\n{ours.decode()}\nsecond:\n{theirs.decode()}")
+    return differ
+
+
+class Scripts:
+    """Scripts given to both programs, and what was counted of them."""
+
+    def __init__(self):
+        self.counts, self.problems, self.lock = collections.Counter(), [], threading.Lock()
+
+    def count(self, name, more=1):
+        with self.lock:
+            self.counts[name] += more
+
+    def both(self, name, lines, console=CONSOLE):
+        """The answers of the second program, after those of both were compared."""
+        given = "".join(made + "\n" for made in lines).encode()
+        ours, theirs = output([console], given), output([SECOND, "commands"], given)
+        answers = theirs.decode().splitlines()
+        with self.lock:
+            self.counts.update(["scripts", "scripts of " + name.split()[0]])
+            self.counts.update("command " + (made.split() or ["(blank)"])[0] for made in lines if word_known(made))
+            self.counts.update("answer " + known for known in map(answer_kind, answers) if known)
+        if ours != theirs:
+            pairs = itertools.zip_longest(ours.decode(errors="replace").splitlines(), answers)
+            at = next(at for at, (one, other) in enumerate(pairs) if one != other)
+            some = [text.decode(errors="replace").splitlines()[at:at + 1] for text in (ours, theirs)]
+            self.problem(name, lines, f"answer line {at}: console {some[0]}, second {some[1]}")
+        return answers
+
+    def problem(self, name, lines, text):
+        self.problems.append((name, lines, text))
+
+
+def word_known(made):
+    return not made.split() or made.split()[0] in WORDS
+
+
+WORDS = {"new", *scripts.WORDS, "propose", "propose-member", "withdraw", "list", "row", "unite", "same", "compare",
+         "exposure", "can", "witness", "step", "replay", "write", "image", "body", "#"}
+
+
+def answer_kind(answer):
+    words = answer.split()
+    if words[0] == "refused":
+        return " ".join(words[:3] if words[1] == "7" else words[:2])
+    return words[0] if words[0] in ("yes", "no", "accepted", "?", "nothing", "withdrawn", "same", "contains") else None
+
+
+def compare_witnesses(rng, name, found, console):
+    """Steps of both programs to the same rights: whole, with each left out, and damaged, replayed by both."""
+    larger = rng.random() < 0.1
+    made, before, questions = (scripts.large_questions if larger else scripts.deep)(rng, 7)
+    can = found.both(name, before + [scripts.line("can", *fields) for fields in questions], console)[len(before):]
+    asked = before + [scripts.line("witness", *fields) for fields in questions]
+    given = "".join(text + "\n" for text in asked).encode()
+    for program in [[console]] if larger else [[console], [SECOND, "steps"]]:
+        answers = output(program, given).decode().splitlines()[len(before):]
+        lists = scripts.step_lists(answers)
+        found.count("command witness", len(questions))
+        if [steps is not None for steps in lists] != [answer == "yes" for answer in can]:
+            found.problem(name, asked, f"{program[0].name}: witness {answers}, can {can}")
+            continue
+        for steps, fields in zip(lists, questions):
+            if steps is not None:
+                replay_witness(rng, name, found, console, before, steps, fields, made)
+
+
+def replay_witness(rng, name, found, console, before, steps, fields, made):
+    lines, expected = list(before), {}
+
+    def replay(these, answer=None):
+        lines.extend(scripts.replayed(these, fields))
+        expected[len(lines) - 1] = answer
+
+    replay(steps, "accepted")
+    for at in range(len(steps)):
+        replay(steps[:at] + steps[at + 1:], "refused")
+    for _ in range(3 if steps else 0):
+        replay(scripts.damaged(rng, steps, made, lambda: rng.choice(steps)))
+    answers = found.both(name, lines, console)
+    found.count("witnesses")
+    found.count(f"witnesses of {min(len(steps), 8)} steps" + " or more" * (len(steps) >= 8))
+    found.count("lists with a step of a witness left out", len(steps))
+    for at, answer in expected.items():
+        if answer and answers[at].split()[0] != answer:
+            found.problem(name, lines, f"line {at}: {answers[at]}, though {answer} is expected")
+
+
+def compare_scripts(options):
+    found = Scripts()
+
+    def compare(case):
+        name = f"{case[0]} {case[1]}"
+        rng = random.Random(f"script {name}")
+        if rng.random() < 0.12:
+            compare_witnesses(rng, f"witnesses {name}", found, options.console)
+        else:
+            kind, lines = scripts.script(rng, examples())
+            found.both(f"{kind} {name}", lines, options.console)
+
+    numbers = [(seed, number) for seed in options.seed for number in range(options.cases)]
+    with concurrent.futures.ThreadPoolExecutor(options.jobs) as pool:
+        list(pool.map(compare, numbers))
+    for name, count in sorted(found.counts.items()):
+        print(f"{count:7} {name}")
+    print(f"{len(found.problems):7} differences")
+    for name, _, text in sorted(found.problems)[1:options.show]:
+        print(f"difference: {name}: {text}")
+    if found.problems:
+        name, lines, text = min(found.problems)
+        print(f"first difference: {name}: {text}\n" + "\n".join(lines))
+    return found.problems
+
+
+def write_corpus():
+    text = corpus.text().encode()
+    answers = output([SECOND, "commands"], text)
+    for name, data in (("stdin", text), ("stdout", answers)):
+        (ROOT / "crates/console" / name).write_bytes(data)
+    print(f"{text.count(b'# case ')} cases, {len(text)} bytes of commands, {len(answers)} bytes of answers")
+
+
+def main():
+    options = argparse.ArgumentParser(description=__doc__)
+    options.add_argument("--as-built", action="store_true", help="build nothing")
+    options.add_argument("--cases", type=int, default=200, help="cases for each seed")
+    options.add_argument("--extent", choices=["full", "short"], help="what the second program plants; else by size")
+    options.add_argument("--every-byte", action="store_true", help="instead: the examples with every byte changed")
+    options.add_argument("--commands", action="store_true", help="instead: scripts of commands, given to `console`")
+    options.add_argument("--console", type=pathlib.Path, default=CONSOLE, help="another place of the program `console`")
+    options.add_argument("--jobs", type=int, default=os.cpu_count(), help="scripts at a time")
+    options.add_argument("--show", type=int, default=10, help="how many differences are named")
+    options.add_argument("--corpus", action="store_true", help="instead: write the fixed scripts of crates/console")
+    options.add_argument("seed", nargs="*", default=["1", "2", "3"])
+    options = options.parse_args()
+    if not options.as_built:
+        build_second()
+        if not options.corpus and options.console == CONSOLE:
+            build_proved("console" if options.commands else "ketrumbis")
+    if options.corpus:
+        return write_corpus()
+    if (compare_scripts if options.commands else compare_images)(options):
         sys.exit(1)
     print("no difference")
 

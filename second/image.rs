@@ -1,143 +1,111 @@
-//! Reads an image, or names its first fault.
+//! Writes the image of a book; reads an image, or names its first fault.
 
-use crate::book::{Book, Entity, Line, Place, ACCOUNT, CONTAINER, PROCEDURE, ROLE, TABLE};
-
-pub struct Fault {
-    pub part: usize,
-    pub record: usize,
-}
+use crate::book::{Book, Place};
+use crate::calls::{self, Answer, Refusal, CALLER};
 
 const SIZES: [usize; 5] = [4, 2, 4, 2, 7];
-const MOST: [usize; 5] = [96, 64, 256, 128, 256];
-const FIRST: [[u8; 4]; 3] = [[0, 0, 2, 0], [4, 0, 2, 0], [4, 0, 2, 0]];
-const CALLER: u8 = 255;
+const MOST: [usize; 5] = [96, calls::MOST_LINKS, calls::MOST_RIGHTS, calls::MOST_MEMBERS, calls::MOST_LINES];
+const CONTENTS: usize = 20;
 
-pub fn read(bytes: &[u8]) -> Result<Book, Fault> {
-    let contents = |record| Fault { part: 0, record };
-    if bytes.len() < 20 {
-        return Err(contents(5));
-    }
-    let number = |at: usize| bytes[at] as usize * 256 + bytes[at + 1] as usize;
-    let mut end = 20;
-    let mut bodies = Vec::new();
-    for k in 0..5 {
-        let (start, count) = (number(4 * k), number(4 * k + 2));
-        if start != end || count > MOST[k] || (k == 0 && count < 3) {
-            return Err(contents(k));
-        }
-        bodies.push((start, count));
-        end = start + count * SIZES[k];
-    }
-    if bytes.len() != end {
-        return Err(contents(5));
-    }
-    let mut book = Book::default();
-    for (k, &(start, count)) in bodies.iter().enumerate() {
-        for record in 0..count {
-            let at = start + record * SIZES[k];
-            let fields = &bytes[at..at + SIZES[k]];
-            let taken = match k {
-                0 => entity(&mut book, fields),
-                1 => link(&mut book, fields),
-                2 => right(&mut book, fields),
-                3 => member(&mut book, fields),
-                _ => line(&mut book, fields),
-            };
-            if !taken {
-                return Err(Fault { part: k + 1, record });
+pub fn read(bytes: &[u8]) -> Result<Book, Refusal> {
+    let bodies = bodies(bytes)?;
+    let mut book = Book::new();
+    for (list, body) in bodies.iter().enumerate() {
+        for (record, fields) in body.chunks(SIZES[list]).enumerate() {
+            if !taken(&mut book, list, record, fields) {
+                return Err(Refusal::Fault { part: list + 1, record });
             }
         }
     }
     Ok(book)
 }
 
-fn entity(book: &mut Book, fields: &[u8]) -> bool {
-    let number = book.entities.len();
-    let (kind, parent, owner, mode) = (fields[0], fields[1] as usize, fields[2] as usize, fields[3]);
-    let fits = if number < 3 {
-        fields == FIRST[number]
-    } else {
-        declared(book, kind, parent, owner, mode)
-    };
-    if fits {
-        book.entities.push(Entity { kind, parent, owner, mode });
-    }
-    fits
+/// The bytes of one list of an image that reads.
+pub fn body(bytes: &[u8], list: usize) -> Result<&[u8], Refusal> {
+    read(bytes)?;
+    Ok(bodies(bytes)?[list])
 }
 
-fn declared(book: &Book, kind: u8, parent: usize, owner: usize, mode: u8) -> bool {
-    let number = book.entities.len();
-    if kind > ROLE || mode > 1 || (mode == 1 && kind != CONTAINER) || !book.is(parent, CONTAINER) {
-        return false;
+fn bodies(bytes: &[u8]) -> Result<[&[u8]; 5], Refusal> {
+    let wrong = |record| Err(Refusal::Fault { part: 0, record });
+    if bytes.len() < CONTENTS {
+        return wrong(5);
     }
-    let above = &book.entities[parent];
-    let given = match kind {
-        ACCOUNT => parent == 0 && owner == number,
-        ROLE => parent == 0 && book.is_principal(owner),
-        CONTAINER if above.mode == 0 => book.is_principal(owner),
-        CONTAINER => owner == above.owner,
-        _ => above.mode == 1 && owner == above.owner,
-    };
-    let most = if kind == PROCEDURE { 32 } else { 16 };
-    given && book.of_kind(kind).len() < most
+    let number = |at: usize| bytes[at] as usize * 256 + bytes[at + 1] as usize;
+    let mut end = CONTENTS;
+    let mut ends = [0; 5];
+    for k in 0..5 {
+        let (start, count) = (number(4 * k), number(4 * k + 2));
+        if start != end || count > MOST[k] || (k == 0 && count < 3) {
+            return wrong(k);
+        }
+        end += count * SIZES[k];
+        ends[k] = end;
+    }
+    if bytes.len() != end {
+        return wrong(5);
+    }
+    let mut start = CONTENTS;
+    Ok(ends.map(|end| {
+        let body = &bytes[start..end];
+        start = end;
+        body
+    }))
 }
 
-fn link(book: &mut Book, fields: &[u8]) -> bool {
-    let (lower, upper) = (fields[0] as usize, fields[1] as usize);
-    let fits = book.is(lower, ROLE)
-        && book.is(upper, ROLE)
-        && !book.roles_below(lower).contains(&upper)
-        && !book.links.contains(&(lower, upper));
-    if fits {
-        book.links.push((lower, upper));
+/// Whether the record is the next one that its list gets.
+fn taken(book: &mut Book, list: usize, record: usize, fields: &[u8]) -> bool {
+    if list == 0 && record < book.entities.len() {
+        return fields == entity_bytes(book, record);
     }
-    fits
+    matches!(call(book, list, fields), Ok(number) if number == record)
 }
 
-fn right(book: &mut Book, fields: &[u8]) -> bool {
-    let (principal, entity, right) = (fields[0] as usize, fields[1] as usize, fields[2] as usize);
-    let fits = right <= 6
-        && fields[3] <= 1
-        && book.is_principal(principal)
-        && entity < book.entities.len()
-        && !book.rights.iter().any(|&(p, e, r, _)| (p, e, r) == (principal, entity, right));
-    if fits {
-        book.rights.push((principal, entity, right, fields[3] == 1));
+fn call(book: &mut Book, list: usize, fields: &[u8]) -> Answer {
+    match list {
+        0 => calls::declare(book, exactly(fields)),
+        1 => calls::link(book, exactly(fields)),
+        2 => calls::grant(book, exactly(fields)),
+        3 => calls::join(book, exactly(fields)),
+        _ => calls::line(book, exactly(fields)),
     }
-    fits
 }
 
-fn member(book: &mut Book, fields: &[u8]) -> bool {
-    let member = (fields[0] as usize, fields[1] as usize);
-    let fits = book.is(member.0, ACCOUNT) && book.is(member.1, ROLE) && !book.members.contains(&member);
-    if fits {
-        book.members.push(member);
-    }
-    fits
+fn exactly<const N: usize>(fields: &[u8]) -> [u8; N] {
+    fields.try_into().expect("as many fields as the record has")
 }
 
-fn place(book: &Book, fields: &[u8]) -> Option<Place> {
-    let (kind, entity, right) = (fields[0], fields[1] as usize, fields[2] as usize);
-    let fits = match kind {
-        0 => right == 0 && book.is(entity, PROCEDURE),
-        1 => (1..=3).contains(&right) && book.is(entity, TABLE),
-        _ => false,
-    };
-    fits.then_some((kind, entity, right))
+pub fn write(book: &Book) -> Vec<u8> {
+    let bodies = [
+        (0..book.entities.len()).flat_map(|e| entity_bytes(book, e)).collect(),
+        book.links.iter().flat_map(|l| [l.0 as u8, l.1 as u8]).collect(),
+        book.rights.iter().flat_map(|r| [r.0 as u8, r.1 as u8, r.2 as u8, r.3 as u8]).collect(),
+        book.members.iter().flat_map(|m| [m.0 as u8, m.1 as u8]).collect(),
+        lines(book),
+    ];
+    let mut bytes = Vec::new();
+    let mut start = CONTENTS;
+    for (list, body) in bodies.iter().enumerate() {
+        bytes.extend((start as u16).to_be_bytes());
+        bytes.extend(((body.len() / SIZES[list]) as u16).to_be_bytes());
+        start += body.len();
+    }
+    bytes.extend(bodies.concat());
+    bytes
 }
 
-fn line(book: &mut Book, fields: &[u8]) -> bool {
-    let (Some(at), Some(called)) = (place(book, &fields[0..3]), place(book, &fields[4..7])) else {
-        return false;
-    };
-    let runner = match fields[3] {
-        CALLER => None,
-        account if book.is(account as usize, ACCOUNT) => Some(account as usize),
-        _ => return false,
-    };
-    let fits = !book.lines.iter().any(|l| (l.place, l.runner, l.called) == (at, runner, called));
-    if fits {
-        book.lines.push(Line { place: at, runner, called });
+fn entity_bytes(book: &Book, number: usize) -> [u8; 4] {
+    let entity = &book.entities[number];
+    [entity.kind, entity.parent as u8, entity.owner as u8, entity.mode]
+}
+
+fn lines(book: &Book) -> Vec<u8> {
+    let three = |place: Place| [place.0, place.1 as u8, place.2 as u8];
+    let mut bytes = Vec::new();
+    for line in &book.lines {
+        bytes.extend(three(line.place));
+        bytes.push(line.runner.map_or(CALLER, |account| account as u8));
+        bytes.extend(three(line.called));
     }
-    fits
+    bytes
 }

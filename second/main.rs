@@ -1,52 +1,56 @@
-//! Reads an image on standard input and prints its listing, or the fault as `7 part record`.
-//! The first argument may be `full` or `short`: which lines a session is tried to plant (runs.rs).
+//! Reads an image on standard input and prints its listing, or the fault as `7 part record`; with the argument
+//! `commands` reads commands and prints their answers, a `?` for `witness`; with `steps` the same, and `witness` is
+//! answered with steps that this program finds.
+//! A further argument may be `full` or `short`: which lines a session is tried to plant (runs.rs).
 
 mod book;
+mod calls;
 mod image;
+mod layer;
+mod questions;
+mod replay;
 mod runs;
+mod script;
+mod steps;
 
-use book::{Book, ACCOUNT, IMPERSONATE, RIGHTS};
-use std::io::{Read, Write};
+use runs::Extent;
+use std::io::{BufRead, Read, Write};
 
-fn listing(book: &Book, extent: runs::Extent) -> String {
-    let accounts = book.of_kind(ACCOUNT);
-    let places = RIGHTS * book.entities.len();
-    let mut text = String::new();
-    for &opener in &accounts {
-        let end = runs::close(book, opener, extent);
-        let uses = |right: usize, entity: usize| end.acted.iter().any(|&a| end.powers.holds(a, right, entity));
-        let mut ones = 0;
-        for entity in 0..book.entities.len() {
-            for right in 0..RIGHTS {
-                if uses(right, entity) {
-                    ones += 1;
-                }
-            }
-        }
-        text += &format!("{opener:02} ");
-        for &other in &accounts {
-            text.push(if uses(IMPERSONATE, other) { '1' } else { '0' });
-        }
-        text += &format!(" {:04}\n", ones * 1000 / places);
-    }
-    text
-}
-
-fn main() {
-    let extent = match std::env::args().nth(1).as_deref() {
-        None => runs::Extent::BySize,
-        Some("full") => runs::Extent::Full,
-        Some("short") => runs::Extent::Short,
-        Some(other) => {
-            eprintln!("not `full` or `short`: {other}");
-            std::process::exit(2);
-        }
-    };
+fn list(extent: Extent) {
     let mut bytes = Vec::new();
     std::io::stdin().read_to_end(&mut bytes).expect("standard input");
     let text = match image::read(&bytes) {
-        Ok(book) => listing(&book, extent),
-        Err(fault) => format!("7 {} {}\n", fault.part, fault.record),
+        Ok(book) => questions::listing(&book, extent),
+        Err(fault) => format!("{fault}\n"),
     };
     std::io::stdout().write_all(text.as_bytes()).expect("standard output");
+}
+
+fn commands(extent: Extent, finding: bool) {
+    let mut console = script::Console::new(extent, finding);
+    let mut to = std::io::BufWriter::new(std::io::stdout().lock());
+    for line in std::io::stdin().lock().split(b'\n') {
+        to.write_all(&console.line(&line.expect("standard input"))).expect("standard output");
+    }
+}
+
+fn main() {
+    let (mut extent, mut script, mut finding) = (Extent::BySize, false, false);
+    for word in std::env::args().skip(1) {
+        match word.as_str() {
+            "commands" => script = true,
+            "steps" => (script, finding) = (true, true),
+            "full" => extent = Extent::Full,
+            "short" => extent = Extent::Short,
+            _ => {
+                eprintln!("not `commands`, `steps`, `full` or `short`: {word}");
+                std::process::exit(2);
+            }
+        }
+    }
+    if script {
+        commands(extent, finding);
+    } else {
+        list(extent);
+    }
 }

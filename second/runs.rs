@@ -48,9 +48,12 @@ struct Session<'a> {
     acted: BTreeSet<usize>,
     rights: BTreeSet<Right>,
     members: BTreeSet<Member>,
+    /// Of each action that is a grant or a join: whether its record stands.
+    recorded: Vec<bool>,
     /// Object, runner, action: whether the line stands, by number.
     planted: Vec<bool>,
-    entered: BTreeSet<(usize, usize)>,
+    /// Of each object, the accounts that entered it.
+    entered: Vec<Vec<bool>>,
     added: bool,
 }
 
@@ -101,8 +104,9 @@ impl<'a> Session<'a> {
             acted: BTreeSet::from([opener]),
             rights: book.rights.iter().copied().collect(),
             members: book.members.iter().copied().collect(),
+            recorded: vec![false; actions.len()],
             planted: vec![false; objects.len() * runners.len() * actions.len()],
-            entered: BTreeSet::new(),
+            entered: vec![vec![false; book.entities.len()]; objects.len()],
             added: false,
             accounts,
             objects,
@@ -135,23 +139,37 @@ impl<'a> Session<'a> {
     }
 
     fn grants(&mut self, powers: &Powers) {
-        for &action in &self.actions {
-            if let Action::Grant(record) = action {
+        for number in 0..self.actions.len() {
+            if let Action::Grant(record) = self.actions[number] {
                 if self.acted.iter().any(|&a| powers.may_grant(a, record.2, record.1)) {
-                    self.added |= self.rights.insert(record);
+                    self.record(number);
                 }
             }
         }
     }
 
     fn joins(&mut self, powers: &Powers) {
-        for &action in &self.actions {
-            if let Action::Join(member) = action {
+        for number in 0..self.actions.len() {
+            if let Action::Join(member) = self.actions[number] {
                 if self.acted.iter().any(|&a| powers.holds(a, ALTER, member.1)) {
-                    self.added |= self.members.insert(member);
+                    self.record(number);
                 }
             }
         }
+    }
+
+    fn enter(&mut self, object: usize, account: usize) {
+        self.added |= !self.entered[object][account];
+        self.entered[object][account] = true;
+    }
+
+    fn record(&mut self, number: usize) {
+        self.recorded[number] = true;
+        self.added |= match self.actions[number] {
+            Action::Grant(record) => self.rights.insert(record),
+            Action::Join(member) => self.members.insert(member),
+            Action::Call(_) => false,
+        };
     }
 
     fn plants(&mut self, powers: &Powers) {
@@ -179,44 +197,58 @@ impl<'a> Session<'a> {
     }
 
     fn calls(&mut self, powers: &Powers) {
-        for &a in &self.acted {
+        for a in self.acted.clone() {
             for object in 0..self.objects.len() {
                 if self.may_enter(powers, a, object) {
-                    self.added |= self.entered.insert((object, a));
+                    self.enter(object, a);
                 }
             }
         }
     }
 
     fn follows(&mut self, powers: &Powers) {
-        for (x, v) in self.entered.clone() {
-            let book = self.book;
-            for line in &book.lines {
-                if self.object(line.place) == x {
-                    let called = self.object(line.called);
-                    self.follow(powers, x, line.runner.unwrap_or(v), Action::Call(called));
-                }
+        let book = self.book;
+        for line in &book.lines {
+            let (x, y) = (self.object(line.place), self.object(line.called));
+            for v in self.inside(x) {
+                self.follow_call(powers, x, line.runner.unwrap_or(v), y);
             }
-            for runner in 0..self.runners.len() {
-                for action in 0..self.actions.len() {
-                    if self.planted[self.line(x, runner, action)] {
-                        self.follow(powers, x, self.runners[runner].unwrap_or(v), self.actions[action]);
+        }
+        for x in 0..self.objects.len() {
+            for v in self.inside(x) {
+                for runner in 0..self.runners.len() {
+                    for action in 0..self.actions.len() {
+                        if self.planted[self.line(x, runner, action)] {
+                            self.follow(powers, x, self.runners[runner].unwrap_or(v), action);
+                        }
                     }
                 }
             }
         }
     }
 
-    /// A line of x that runs under w is followed, if w may do its action.
-    fn follow(&mut self, powers: &Powers, x: usize, w: usize, action: Action) {
-        self.added |= match action {
-            Action::Call(y) => {
-                let chained = self.objects[x].owner == self.objects[y].owner;
-                (chained || self.may_enter(powers, w, y)) && self.entered.insert((y, w))
-            }
-            Action::Grant(record) => powers.may_grant(w, record.2, record.1) && self.rights.insert(record),
-            Action::Join(member) => powers.holds(w, ALTER, member.1) && self.members.insert(member),
+    fn inside(&self, object: usize) -> Vec<usize> {
+        self.accounts.iter().copied().filter(|&v| self.entered[object][v]).collect()
+    }
+
+    /// A planted line of x that runs under w is followed, if w may do its action.
+    fn follow(&mut self, powers: &Powers, x: usize, w: usize, number: usize) {
+        let may = match self.actions[number] {
+            Action::Call(y) => return self.follow_call(powers, x, w, y),
+            _ if self.recorded[number] => false,
+            Action::Grant(record) => powers.may_grant(w, record.2, record.1),
+            Action::Join(member) => powers.holds(w, ALTER, member.1),
         };
+        if may {
+            self.record(number);
+        }
+    }
+
+    fn follow_call(&mut self, powers: &Powers, x: usize, w: usize, y: usize) {
+        let chained = self.objects[x].owner == self.objects[y].owner;
+        if chained || self.may_enter(powers, w, y) {
+            self.enter(y, w);
+        }
     }
 }
 
