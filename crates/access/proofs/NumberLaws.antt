@@ -1,6 +1,8 @@
 -- Laws of the numbers of rights.
 use Rattle.std.proofs.Common.{rules, ◌≡◌, ℕ, zero, suc, ◌<◌, refl, arith}
-use Rattle.access.specs.Numbers.{right_number}
+use mathlib.Core.List.Memᴰ
+use Rattle.access.specs.Lists.{◌∈◌}
+use Rattle.access.specs.Numbers.{right_number, rights}
 use Rattle.access.specs.declared.rights.Right.{Right}
 use Rattle.access.specs.declared.rights.Right.TheVariants.{Select, Insert, Update, Delete, Alter, Execute, Impersonate}
 
@@ -27,3 +29,13 @@ right_numbered (suc (suc (suc (suc zero)))) h = (Alter, refl)
 right_numbered (suc (suc (suc (suc (suc zero))))) h = (Execute, refl)
 right_numbered (suc (suc (suc (suc (suc (suc zero)))))) h = (Impersonate, refl)
 right_numbered (suc (suc (suc (suc (suc (suc (suc k))))))) h = absurd (omega arith)
+
+-- the list of rights has every right
+pub right_listed : (r : Right) → r ∈ rights
+right_listed Select = Memᴰ.head refl
+right_listed Insert = Memᴰ.tail (Memᴰ.head refl)
+right_listed Update = Memᴰ.tail (Memᴰ.tail (Memᴰ.head refl))
+right_listed Delete = Memᴰ.tail (Memᴰ.tail (Memᴰ.tail (Memᴰ.head refl)))
+right_listed Alter = Memᴰ.tail (Memᴰ.tail (Memᴰ.tail (Memᴰ.tail (Memᴰ.head refl))))
+right_listed Execute = Memᴰ.tail (Memᴰ.tail (Memᴰ.tail (Memᴰ.tail (Memᴰ.tail (Memᴰ.head refl)))))
+right_listed Impersonate = Memᴰ.tail (Memᴰ.tail (Memᴰ.tail (Memᴰ.tail (Memᴰ.tail (Memᴰ.tail (Memᴰ.head refl))))))

@@ -1,4 +1,4 @@
-// Why a call declines.
+// Why a call is refused.
 ghost use Rattle.std.specs.Prelude.{◌≡◌, slice_index};
 ghost use Rattle.access.specs.Codes.{code};
 

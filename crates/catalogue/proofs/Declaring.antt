@@ -16,7 +16,7 @@ use Rattle.catalogue.proofs.Judging.{judged_ok}
 use Rattle.access.proofs.Turns.{turn_push, turn_ind}
 use Rattle.catalogue.proofs.Standing.{fits_stays}
 
-taken_ok : {X : Type 0} (r : Result X Code) → is_ok r ≡ true → (x : X) × (r ≡ Ok x)
+pub taken_ok : {X : Type 0} (r : Result X Code) → is_ok r ≡ true → (x : X) × (r ≡ Ok x)
 taken_ok (Ok x) e = (x, refl)
 taken_ok (Err c) e = let no : ⊥ = false≢true e in absurd no
 

@@ -19,7 +19,7 @@ use Rattle.catalogue.specs.Judgements.{Reason, judged, judged_kind, judged_entit
 use Rattle.catalogue.specs.Sound.{TakesEntity, TakesRight, TakesMember, TakesLine}
 
 module _ {X : Type 0} where
-  reason_off : (b : Bool) (r : Code) (rest : Result X Code) (y : X) → cond b (Err r) rest ≡ Ok y → (b ≡ false) × (rest ≡ Ok y)
+  pub reason_off : (b : Bool) (r : Code) (rest : Result X Code) (y : X) → cond b (Err r) rest ≡ Ok y → (b ≡ false) × (rest ≡ Ok y)
   reason_off true r rest y e = let z : ◌≡◌ {A = ℕ} 0 1 = cc in let no : ⊥ = omega arith in absurd no
   reason_off false r rest y e = (refl, e)
 

@@ -18,7 +18,7 @@ pub record Outcome : Type 0 where
   pub answer : Result ℕ Code
   pub lists : Lists
 
--- a call that declines changes nothing
+-- a call that is refused changes nothing
 abbrev pub unless : {X : Type 0} → Lists → (X → Outcome) → Result X Code → Outcome
 unless l put (Err c) = record { answer = Err c; lists = l }
 unless l put (Ok x) = put x

@@ -14,7 +14,7 @@ use Rattle.catalogue.specs.Tables.{Once}
 use Rattle.catalogue.specs.Alike.{same_link, same_right, same_member, same_line}
 use Rattle.catalogue.specs.Judgements.{judged_kind, object_fits, runner_fits}
 
--- a book with these entities takes the record: its building call would not decline it
+-- a book with these entities takes the record: its building call would not refuse it
 abbrev pub TakesEntity : List Entity → Entity → Type 0
 TakesEntity es e = is_ok (judged_kind es e.parent e.owner (Some e.mode) (Some e.kind)) ≡ true
 

@@ -1,17 +1,16 @@
 -- An object has a slot of its own, and a record says what it notes.
-use Rattle.std.proofs.Common.{◌≡◌, ℕ, zero, suc, ◌+◌, ◌*◌, ◌<◌, true, ◌&&◌, eqb, Some, Decides, sym, refl, ap, ◌∙◌, arith}
+use Rattle.std.proofs.Common.{◌≡◌, ℕ, zero, suc, ◌+◌, ◌*◌, ◌<◌, true, ◌&&◌, eqb, Decides, sym, refl, ap, ◌∙◌, arith}
 use Rattle.std.proofs.lemmas.Bool.{and_parts, and_from, eqb-true, eq-eqb}
-use Rattle.std.proofs.lemmas.Option.{same_Some}
 use Rattle.access.specs.declared.rights.Right.{Right}
-use Rattle.access.specs.declared.rights.Right.TheVariants.{Select, Insert, Update, Delete, Alter, Execute, Impersonate}
 use Rattle.access.specs.declared.rights.RightRecord.{RightRecord}
 use Rattle.access.specs.declared.roles.Member.{Member}
 use Rattle.access.specs.declared.code.Event.TheVariants.{Inserted, Updated, Deleted}
 use Rattle.access.specs.declared.code.Object.{Object}
 use Rattle.access.specs.declared.code.Object.TheVariants as object
 use Rattle.access.specs.Lists.{public}
-use Rattle.access.specs.Numbers.{right_at, right_number}
+use Rattle.access.specs.Numbers.{right_number}
 use Rattle.access.specs.Places.{place_of}
+use Rattle.access.proofs.NumberLaws.{same_right}
 use Rattle.runs.specs.declared.steps.Entry.{Entry}
 use Rattle.runs.specs.States.{pair}
 use Rattle.runs.specs.Rights.{right_record, member_record}
@@ -41,29 +40,20 @@ object_back (object.Triggers e Updated) = refl
 object_back (object.Triggers e Deleted) = refl
 object_back (object.Created e) = refl
 
-slot_sort : (p q s t : ℕ) → p < 96 → q < 96 → p + 96 * s ≡ q + 96 * t → s ≡ t
+pub slot_sort : (p q s t : ℕ) → p < 96 → q < 96 → p + 96 * s ≡ q + 96 * t → s ≡ t
 slot_sort p q s t h l e = omega arith
 
 pub slot_small : (x : Object) → place_of x < 96 → slot_of x < 480
 slot_small x h = omega (arith, sort_small x)
 
+-- an object is known by its sort and its place
+pub same_object : (x y : Object) → sort_number x ≡ sort_number y → place_of x ≡ place_of y → x ≡ y
+same_object x y s p = sym (object_back x) ∙ ap (λ n. object_in n (place_of x)) s ∙ ap (object_in (sort_number y)) p ∙ object_back y
+
 pub slot_same : (x y : Object) → place_of x < 96 → place_of y < 96 → slot_of x ≡ slot_of y → x ≡ y
 slot_same x y h l e =
     let s : sort_number x ≡ sort_number y = slot_sort (place_of x) (place_of y) (sort_number x) (sort_number y) h l e in
-    let p : place_of x ≡ place_of y = omega arith in
-    sym (object_back x) ∙ ap (λ n. object_in n (place_of x)) s ∙ ap (object_in (sort_number y)) p ∙ object_back y
-
-right_back : (r : Right) → right_at (right_number r) ≡ Some r
-right_back Select = refl
-right_back Insert = refl
-right_back Update = refl
-right_back Delete = refl
-right_back Alter = refl
-right_back Execute = refl
-right_back Impersonate = refl
-
-right_same : (r s : Right) → right_number r ≡ right_number s → r ≡ s
-right_same r s e = same_Some r s (sym (right_back r) ∙ ap right_at e ∙ right_back s)
+    same_object x y s (omega arith)
 
 pub entry_told : (n : Entry) (y : Object) (w : ℕ) → place_of n.object < 96 → place_of y < 96
     → Decides (eqb (slot_of n.object) (slot_of y) && eqb n.account w) (n ≡ pair y w)
@@ -89,7 +79,7 @@ right_told e r g = (
   λ t. let (a, b) = and_parts _ _ t in
       let (p, o) = and_parts _ _ a in
       let (n, k) = and_parts _ _ b in
-      ap (λ d. right_record public d r true) (eqb-true _ _ n) ∙ ap (λ s. right_record public g.entity s true) (right_same r g.right (eqb-true _ _ k))
+      ap (λ d. right_record public d r true) (eqb-true _ _ n) ∙ ap (λ s. right_record public g.entity s true) (same_right r g.right (eqb-true _ _ k))
       ∙ opened g (eqb-true _ _ p) o,
   λ h. and_from _ _
       (and_from _ _ (eq-eqb _ _ (ap (λ (k : RightRecord). k.principal) (sym h))) (ap (λ (k : RightRecord). k.option) (sym h)))

@@ -1,3 +1,2 @@
-pub mod Grids
 pub mod Records
 pub mod Tables

@@ -17,7 +17,7 @@ use Rattle.runs.specs.States.{State, pair}
 use Rattle.runs.specs.Rights.{right_record}
 use Rattle.runs.specs.Runs.{worker}
 use Rattle.lookup.specs.declared.tables.Marks.{Marks}
-use Rattle.lookup.specs.Grids.{noted}
+use Rattle.grid.specs.Grids.{noted}
 
 -- pairs, members, actions and steps whose numbers the tables have room for
 abbrev pub SmallEntry : Entry → Type 0

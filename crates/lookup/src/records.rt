@@ -1,12 +1,12 @@
 // What the records of a catalogue and of a run note.
 ghost use Rattle.std.specs.Prelude.{◌≡◌, ℕ, ◌<◌, ◌||◌};
 ghost use Rattle.std.specs.List.{list_any};
-ghost use Rattle.lookup.specs.Grids.{noted};
+ghost use Rattle.grid.specs.Grids.{noted};
 ghost use Rattle.lookup.specs.Records.{Adds, opens, joins};
 
 use crate::ENTITIES;
-use crate::grids::Grid;
 use access::{Member, RightRecord, RightSet};
+use grid::Grid;
 use order::Row;
 
 // The role that everyone is in.

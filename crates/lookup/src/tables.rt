@@ -12,9 +12,9 @@ ghost use Rattle.runs.specs.States.{State, Part, start, acting, done, pair};
 ghost use Rattle.lookup.specs.Tables.{SmallEntry, SmallMember, SmallAction, SmallStep, KnownAction, Known, Marked, sort_number, slot_of};
 
 use crate::ENTITIES;
-use crate::grids::Grid;
 use crate::records::{note_members, note_right, note_rights};
 use access::{Action, Member, Object, Right, RightRecord, RightSet};
+use grid::Grid;
 use order::Row;
 use runs::{Entry, Step, worker};
 
@@ -31,7 +31,7 @@ pub struct Marks {
 }
 
 // The number of an object's sort.
-fn sort(object: Object) -> u8
+pub fn sort(object: Object) -> u8
     ensures { result ≡ sort_number object }
 {
     match object {
@@ -42,7 +42,7 @@ fn sort(object: Object) -> u8
 }
 
 // The slot of an object, past the end where its entity's number is.
-fn slot(object: Object) -> usize
+pub fn slot(object: Object) -> usize
     ensures { place_of object < 96 → result ≡ slot_of object }
 {
     let place = object.place() as usize;

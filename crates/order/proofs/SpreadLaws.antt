@@ -9,12 +9,13 @@ use Rattle.access.proofs.SetLaws.{bit_zero}
 use Rattle.order.specs.Spreads.{Carried}
 use Rattle.order.specs.Taken.{TakesBit}
 
-and_bits : (p q : ℕ) → p < 2 → q < 2 → eqb (min p q) 1 ≡ (eqb p 1 && eqb q 1)
-and_bits p q h l = grind (arith, nat_tests)
+both_bits : (p q : ℕ) → p < 2 → q < 2 → eqb (min p q) 1 ≡ (eqb p 1 && eqb q 1)
+both_bits p q h l = grind (arith, nat_tests)
 
-bit_and_lem : (a b y : ℕ) → bit (bit_and a b) y ≡ (bit a y && bit b y)
+-- what is in two sets
+pub bit_both : (a b y : ℕ) → bit (bit_and a b) y ≡ (bit a y && bit b y)
 unfolding bit
-bit_and_lem a b y = ap (λ (m : ℕ). eqb m 1) (bit_at_and a b y) ∙ and_bits _ _ (bit_at-lt a y) (bit_at-lt b y)
+bit_both a b y = ap (λ (m : ℕ). eqb m 1) (bit_at_and a b y) ∙ both_bits _ _ (bit_at-lt a y) (bit_at-lt b y)
 
 -- the bits `rest` are places that x is at or below; what is gathered is carried, and what is missing is at a place in `rest`
 pub record Gathered (below : ℕ → ℕ → Type 0) (base : ℕ → ℕ → Bool) (n x : ℕ) (all : ℕ → Bool) (rest : ℕ) : Type 0 where
@@ -27,7 +28,7 @@ pub gathered_none : (below : ℕ → ℕ → Type 0) (base : ℕ → ℕ → Boo
     → ((k : ℕ) → all k ≡ false) → (over places : ℕ) → rest ≡ bit_and over places → ((y : ℕ) → Decides (bit over y) (below x y))
     → ((y k : ℕ) → base y k ≡ true → bit places y ≡ true) → Gathered below base n x all rest
 gathered_none below base n x all rest none over places e d some =
-    let both : (y : ℕ) → bit rest y ≡ (bit over y && bit places y) = λ y. ap (λ (m : ℕ). bit m y) e ∙ bit_and_lem over places y in
+    let both : (y : ℕ) → bit rest y ≡ (bit over y && bit places y) = λ y. ap (λ (m : ℕ). bit m y) e ∙ bit_both over places y in
     record {
       above = λ y t. (d y).0 (and_parts (bit over y) _ (sym (both y) ∙ t)).0;
       carried = λ k t. absurd (both_ways _ (none k) t);

@@ -10,7 +10,7 @@ mod tables;
 #[cfg(test)]
 mod tests;
 
-pub use bits::Bits;
+pub use bits::{Bits, bit_of, has_bit};
 pub use orders::Order;
 pub use rows::Row;
 pub use spreads::spread;

@@ -1,5 +1,5 @@
 -- What the laws of runs need of a catalogue, from its soundness.
-use Rattle.std.proofs.Common.{rules, ◌≡◌, ℕ, zero, suc, ◌-◌, ◌<◌, ◌≤◌, Bool, true, ◌&&◌, eqb, ◌⊎◌, List, [], ◌∷◌, ◌++◌, length, is_some, is_ok, Some, None, Ok, Err, Option, Result, sym, refl, ap, ◌∙◌, subst, inl, inr, ⊎_elim, arith}
+use Rattle.std.proofs.Common.{rules, ◌≡◌, ℕ, zero, suc, ◌-◌, ◌<◌, ◌≤◌, Bool, true, ◌&&◌, eqb, ◌⊎◌, List, [], ◌∷◌, ◌++◌, length, is_some, Some, None, Option, sym, refl, ap, ◌∙◌, subst, inl, inr, ⊎_elim, arith}
 use mathlib.Core.List.Memᴰ
 use Rattle.std.specs.List.{slice_get, AllByRecursion}
 use Rattle.std.proofs.lemmas.Bool.{eqb-true, not-false, and_parts, false≢true}
@@ -13,20 +13,16 @@ use Rattle.access.specs.declared.code.Runner.TheVariants as runner
 use Rattle.access.specs.declared.code.Action.{Action}
 use Rattle.access.specs.declared.code.Action.TheVariants as action
 use Rattle.access.specs.declared.code.Line.{Line}
-use Rattle.access.specs.Codes.{Code}
 use Rattle.access.specs.Lists.{◌∈◌, Lists, new_entities, fits, passes, is_container, is_table, is_procedure, is_account, is_role, public}
 use Rattle.access.specs.Orders.{Rooted}
 use Rattle.catalogue.specs.Judgements.{judged_kind, entity_reasons, entity_named, given, parent_given, owner_given, object_fits, runner_fits, count_kind, limit_of}
 use Rattle.catalogue.specs.Sound.{Sound, Declared, TakesEntity, TakesLine, call_fits}
 use Rattle.catalogue.proofs.Judging.{judged_ok}
 use Rattle.catalogue.proofs.Standing.{nth_below, fits_stays}
-use Rattle.catalogue.proofs.Declaring.{taken, declared_ind, declared_few, entities_few}
+use Rattle.catalogue.proofs.Declaring.{taken, taken_ok, declared_ind, declared_few, entities_few}
 use Rattle.runs.specs.Standing.{Stands, Is, Owns, IsObject, a_procedure, a_trigger}
 
 -- Kinds as tests and as facts
-
-some_same : {A : Type 0} (o : Option A) (a b : A) → o ≡ Some a → o ≡ Some b → a ≡ b
-some_same o a b p q = cc
 
 module _ (L : Lists) where
   pub is_stands : {k : Kind} {e : ℕ} → Is L k e → Stands L e
@@ -111,14 +107,10 @@ given_owner k own p o (Some parent) e h =
     subst (λ (j : Kind). (parent_given j p parent && owner_given j own o parent) ≡ true) e h in
     eqb-true o own (and_parts (eqb p 0) (eqb o own) g).1
 
-ok_value : {X : Type 0} (r : Result X Code) → is_ok r ≡ true → (x : X) × (r ≡ Ok x)
-ok_value (Ok x) e = (x, refl)
-ok_value (Err c) e = absurd (false≢true e)
-
 -- the rules gave a declared entity its parent and owner
 taken_given : (es : List Entity) (x : Entity) → TakesEntity es x → given x.kind (length es) x.parent x.owner (slice_get es x.parent) ≡ true
 taken_given es x t =
-    let (y, e) = ok_value (judged_kind es x.parent x.owner (Some x.mode) (Some x.kind)) t in
+    let (y, e) = taken_ok (judged_kind es x.parent x.owner (Some x.mode) (Some x.kind)) t in
     let off = (judged_ok (entity_reasons es x.parent x.owner (Some x.mode) x.kind) (entity_named x.parent x.owner (Some x.mode) x.kind) y e).0 in
     not-false _ off.1.1.0
 

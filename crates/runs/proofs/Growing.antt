@@ -41,7 +41,7 @@ module _ {L : Lists} {S T : State} (p : Part S T) where
   does_more (by_grant h) = by_grant (may_more p h)
   does_more (by_alter h) = by_alter (holds_more p h)
 
-  stands_more : {l : Line} → LineStands L S l → LineStands L T l
+  pub stands_more : {l : Line} → LineStands L S l → LineStands L T l
   stands_more (in_catalogue m) = in_catalogue m
   stands_more (planted m) = planted (p.planted _ m)
 

@@ -34,7 +34,7 @@ pub record Peopled (L : Lists) (S : State) : Type 0 where
   pub entered : (n : Entry) → n ∈ S.entered → IsObject L n.object × Is L Account n.account
 
 module _ (L : Lists) (s : Sound L) where
-  call_proper : {t : Action} → IsCall L t → Proper L t
+  pub call_proper : {t : Action} → IsCall L t → Proper L t
   call_proper (to o) = a_call o
 
   lends_runner : {S : State} {a : ℕ} {n : Runner} → Lends L S a n → IsRunner L n

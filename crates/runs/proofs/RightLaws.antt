@@ -59,7 +59,7 @@ pub record Gives (F S : State) : Type 0 where
   pub members : Sub S.members F.members
 
 module _ (L : Lists) (s : Sound L) where
-  public_in : (S : State) (a : ℕ) → InRole L S a public
+  pub public_in : (S : State) (a : ℕ) → InRole L S a public
   public_in S a = as_anyone (RoleBelow.itself (public_role L s))
 
   -- a right on v is open to all

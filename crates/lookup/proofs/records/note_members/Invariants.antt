@@ -1,6 +1,6 @@
 use Rattle.std.proofs.Common.{◌≡◌, ℕ, ◌<◌, ◌||◌, take}
 use Rattle.std.specs.List.{list_any}
-use Rattle.lookup.specs.Grids.{noted}
+use Rattle.grid.specs.Grids.{noted}
 use Rattle.lookup.specs.Records.{joins}
 use Rattle.lookup.proofs.records.note_members.Given as goal
 

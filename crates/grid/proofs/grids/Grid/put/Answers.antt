@@ -1,8 +1,8 @@
 use Rattle.std.proofs.Common.{◌<◌, ◌||◌, eqb, length, get_or, ap, ◌∙◌, arith}
 use Rattle.access.proofs.BitLaws.{bit_or_lem, bit_shl}
 use Rattle.order.proofs.RowLaws.{leq_more}
-use Rattle.lookup.specs.Grids.{noted}
-use Rattle.lookup.proofs.grids.Grid.put.Goals as goal
+use Rattle.grid.specs.Grids.{noted}
+use Rattle.grid.proofs.grids.Grid.put.Goals as goal
 
 pub returns-then-y-lt128 : goal.returns-then-y-lt128
 returns-then-y-lt128 g c z k h l =

@@ -1,7 +1,7 @@
-// Tables of bits.
-ghost use Rattle.std.specs.Prelude.{◌≡◌, ℕ, ◌<◌, true, false, ◌&&◌, ◌||◌, ◌==◌};
+// Rows of bits, and what is in them.
+ghost use Rattle.std.specs.Prelude.{◌≡◌, ℕ, ◌<◌, true, false, ◌&&◌, ◌||◌, ◌==◌, nat_lt};
 ghost use Rattle.access.specs.Bits.{bit};
-ghost use Rattle.lookup.specs.Grids.{noted};
+ghost use Rattle.grid.specs.Grids.{noted};
 
 // N rows of 128 bits.
 #[derive(Clone, Copy)]
@@ -30,6 +30,15 @@ impl<const N: usize> Grid<N> {
         ensures { (y : ℕ) → bit result y ≡ noted self.now.rows x y }
     {
         self.rows.get(x).copied().unwrap_or(0)
+    }
+
+    // Adds bits to row x; past the end nothing changes.
+    pub fn add(&mut self, x: usize, more: u128)
+        ensures { (z y : ℕ) → noted self.new.rows z y ≡ (noted self.old.rows z y || ((z == x && nat_lt x N) && bit more y)) }
+    {
+        if x < N {
+            self.rows[x] |= more;
+        }
     }
 
     // Sets bit y of row x; past the end nothing changes.

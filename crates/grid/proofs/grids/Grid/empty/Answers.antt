@@ -1,5 +1,5 @@
 use Rattle.order.proofs.RowLaws.{clear_rows}
-use Rattle.lookup.proofs.grids.Grid.empty.Goals as goal
+use Rattle.grid.proofs.grids.Grid.empty.Goals as goal
 
 pub returns : goal.returns
 returns g c = clear_rows g.row.N

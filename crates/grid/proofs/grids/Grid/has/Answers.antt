@@ -2,7 +2,7 @@ use Rattle.std.proofs.Common.{◌<◌, ◌^◌, sym, ◌∙◌, arith}
 use Rattle.std.proofs.lemmas.Bool.{le-ltb}
 use Rattle.access.proofs.SetLaws.{bit_past}
 use Rattle.access.proofs.BitLaws.{bit_test}
-use Rattle.lookup.proofs.grids.Grid.has.Goals as goal
+use Rattle.grid.proofs.grids.Grid.has.Goals as goal
 
 pub returns-then-y-lt128 : goal.returns-then-y-lt128
 returns-then-y-lt128 g c = bit_test c.row-row.result c.args.y ∙ c.row-row.ensures c.args.y
