@@ -1,4 +1,6 @@
 pub mod Finding
 pub mod Deciding
 pub mod Smalls
+pub mod Owners
 pub mod Allowing
+pub mod Taking

@@ -1,18 +1,20 @@
--- The accounts of a state have numbers below 96, and stay so.
+-- What stands has a number below 96; so have the accounts of a state, and stay so.
 use Rattle.std.proofs.Common.{ℕ, ◌<◌, List, ◌∷◌, sym, subst, arith}
 use mathlib.Core.List.Memᴰ
 use Rattle.access.specs.declared.entities.Kind.{Kind}
 use Rattle.access.specs.declared.entities.Kind.TheVariants.{Account}
 use Rattle.access.specs.declared.code.Runner.{Runner}
+use Rattle.access.specs.declared.code.Object.{Object}
 use Rattle.access.specs.declared.code.Action.{Action}
 use Rattle.access.specs.declared.code.Action.TheVariants as action
 use Rattle.access.specs.declared.code.Line.{Line}
 use Rattle.access.specs.Lists.{◌∈◌, Lists}
+use Rattle.access.specs.Places.{place_of}
 use Rattle.catalogue.specs.Sound.{Sound}
 use Rattle.catalogue.proofs.Standing.{nth_below}
 use Rattle.runs.specs.declared.steps.Step.{Step}
 use Rattle.runs.specs.declared.steps.Step.TheVariants.{Switch, Grant, Join, Plant, Call, Follow}
-use Rattle.runs.specs.Standing.{Is, Stands, Proper, a_call, a_grant, a_join}
+use Rattle.runs.specs.Standing.{Is, IsObject, a_procedure, a_trigger, created, Stands, Proper, a_call, a_grant, a_join}
 use Rattle.runs.specs.States.{State, start, pair, done}
 use Rattle.runs.specs.Runs.{worker, doer_of, Lends, the_caller, an_account, LineStands, in_catalogue, planted, Allowed, switch, grant, join, plant, call, follow, after, Run, ends, goes}
 use Rattle.runs.proofs.Grounds.{is_stands, few, runners, IsRunner, calls, IsCall}
@@ -30,6 +32,11 @@ module _ {L : Lists} (s : Sound L) where
 
   pub is_small : {k : Kind} {e : ℕ} → Is L k e → e < 96
   is_small {e = e} i = stands_small e (is_stands L i)
+
+  pub object_small : {x : Object} → IsObject L x → place_of x < 96
+  object_small (a_procedure i) = is_small i
+  object_small (a_trigger i) = is_small i
+  object_small (created i m) = is_small i
 
   runner_small : {r : Runner} {v : ℕ} → IsRunner L r → v < 96 → worker r v < 96
   runner_small IsRunner.the_caller h = h

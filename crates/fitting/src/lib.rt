@@ -5,4 +5,4 @@ mod actors;
 mod standing;
 
 pub use actors::{Actor, tells};
-pub use standing::{is_kind, is_object, is_proper, one_owner, stands};
+pub use standing::{is_kind, is_object, one_owner};

@@ -11,7 +11,7 @@ use access::{Action, Entity, Kind, Member, Mode, Object, RightRecord};
 use catalogue::{kind_at, stands as stands_in};
 use session::Model;
 
-pub fn stands(model: &Model, n: u8) -> bool
+fn stands(model: &Model, n: u8) -> bool
     ensures { Decides result (Stands (lists_of model.now) n) }
 {
     stands_in(model.entities(), n)

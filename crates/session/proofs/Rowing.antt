@@ -53,7 +53,7 @@ module _ (L : Lists) (S : State) (a : ℕ) where
   can_as (MayGrant.in_role {q = q} i h) = (q, in_as i, h)
 
 -- what something is in has a number below 96
-place_small : (L : Lists) → Sound L → {e d : ℕ} → Within L.entities e d → d < 96
+pub place_small : (L : Lists) → Sound L → {e d : ℕ} → Within L.entities e d → d < 96
 place_small L s {d = d} w = let most = few L s in let low = below_stands L.entities d (place_stands L.entities w) in omega arith
 
 module _ (L : Lists) (ms : List Member) (a : ℕ) (who : List RightSet) (counts : (q : ℕ) → Decides (told who q 0) (AsOne L ms a q)) where

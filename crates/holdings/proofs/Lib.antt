@@ -1,0 +1,9 @@
+pub mod Rowing
+pub mod Taking
+pub mod Marking
+pub mod Inside
+pub mod Lending
+pub mod Telling
+pub mod Entering
+pub mod Made
+pub mod Calling
