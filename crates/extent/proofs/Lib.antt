@@ -1,0 +1,17 @@
+pub mod Counting
+pub mod Recorded
+pub mod Acting
+pub mod Giving
+pub mod Joining
+pub mod Growing
+pub mod Holding
+pub mod Filling
+pub mod Standing
+pub mod Callable
+pub mod Closing
+pub mod Planted
+pub mod Placed
+pub mod Rules
+pub mod Turning
+pub mod Using
+pub mod Idling
