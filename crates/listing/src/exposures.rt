@@ -8,6 +8,7 @@ ghost use Rattle.listing.specs.Exposures.{ones_of, ones, share, Exposed};
 
 use access::Refusal;
 use catalogue::Catalogue;
+use holdings::Holdings;
 use rows::WIDTH;
 use session::Workspace;
 use survey::{judge_accounts, row_of};
@@ -22,14 +23,12 @@ pub(crate) fn has(byte: u8, k: u8) -> bool
 }
 
 // How many rights a byte of a row has.
+#[tactic(auto, using(crate::proofs::Counting::ones_counted, crate::proofs::Counting::ones_counted_few))]
 fn ones_of(byte: u8) -> usize
     ensures count { result ≡ ones_of byte }
     ensures bound { result ≤ 7 }
 {
-    [0, 1, 2, 3, 4, 5, 6]
-        .iter()
-        .filter(|k| has(byte, **k))
-        .count()
+    (byte & 0b111_1111).count_ones() as usize
 }
 
 // How many ones a row has.
@@ -68,6 +67,7 @@ pub fn exposure<C: Catalogue>(
 {
     workspace.model.load(catalogue);
     judge_accounts(workspace.model.entities(), &[account])?;
-    let row = row_of(&workspace.model, &mut workspace.state, account);
+    let tables = Holdings::of(&workspace.model);
+    let row = row_of(&workspace.model, &tables, account);
     Ok(exposure_of(&row, workspace.model.entities().len()))
 }

@@ -2,6 +2,7 @@
 ghost use Rattle.std.specs.Prelude.{◌≡◌, ◌≤◌, List, ℕ, length, take, drop, IfOk, OnErr};
 ghost use Rattle.access.specs.Codes.{coded};
 ghost use Rattle.catalogue.specs.Sound.{Sound};
+ghost use Rattle.holdings.specs.Told.{Told};
 ghost use Rattle.session.specs.Models.{lists_of};
 ghost use Rattle.listing.specs.Puts.{Puts};
 ghost use Rattle.listing.specs.Listings.{accounts_of, size_of, Listing, listing_answer};
@@ -9,7 +10,8 @@ ghost use Rattle.listing.specs.Listings.{accounts_of, size_of, Listing, listing_
 use crate::lines::put_line;
 use access::{Entity, Refusal};
 use catalogue::Catalogue;
-use session::{Model, RunState, Workspace};
+use holdings::Holdings;
+use session::{Model, Workspace};
 use survey::{is_account, row_of};
 
 // How many accounts there are.
@@ -38,15 +40,16 @@ fn size_of(entities: &[Entity]) -> usize
 }
 
 // Writes the line of each account of a loaded catalogue.
-fn put_lines(model: &Model, state: &mut RunState, room: &mut [u8])
-    requires { size_of (lists_of model.now).entities ≤ length room.old }
+fn put_lines(model: &Model, tables: &Holdings, room: &mut [u8])
+    requires told { Told (lists_of model.now) tables.now }
+    requires room { size_of (lists_of model.now).entities ≤ length room.old }
     ensures { (text : List ℕ) × Listing (lists_of model.now) text × Puts 0 text room.old room.new (size_of (lists_of model.now).entities) }
 {
     let entities = model.entities();
     let mut at = 0;
     for e in 0..entities.len() {
         if is_account(entities, e) {
-            let row = row_of(model, state, e as u8);
+            let row = row_of(model, tables, e as u8);
             at = put_line(entities, e, &row, room, at);
         }
     }
@@ -70,6 +73,7 @@ pub fn listing<C: Catalogue>(
     if room.len() < size {
         return Err(Refusal::NoRoom);
     }
-    put_lines(&workspace.model, &mut workspace.state, room);
+    let tables = Holdings::of(&workspace.model);
+    put_lines(&workspace.model, &tables, room);
     Ok(size)
 }

@@ -1,10 +1,10 @@
 -- Bytes by the bits in them.
-use Rattle.std.proofs.Common.{◌≡◌, ℕ, zero, suc, ◌+◌, ◌<◌, ◌^◌, Bool, true, eqb, List, [], ◌∷◌, ◌++◌, length, take, get_or, Decides, subst, refl, sym, ap, ◌∙◌, ⊎_elim, arith, lt_of_lt_of_le, pow_mono}
+use Rattle.std.proofs.Common.{not, ◌&&◌, ◌||◌, ◌≡◌, ℕ, zero, suc, ◌+◌, ◌<◌, ◌^◌, Bool, true, eqb, List, [], ◌∷◌, ◌++◌, length, take, get_or, Decides, subst, refl, sym, ap, ◌∙◌, ⊎_elim, arith, lt_of_lt_of_le, pow_mono}
 use Rattle.std.specs.List.{list_all, zip}
 use native.Mathlib.Nat.{two-pow-succ}
 use lib.Bits.{bit_or}
 use Rattle.std.proofs.lemmas.Bool.{eqb-true, eq-eqb, and_parts, and_from, or_cases, or_left, or_right}
-use Rattle.std.proofs.lemmas.Bool.Decides.{same_from_decides}
+use Rattle.std.proofs.lemmas.Bool.Decides.{same_from_decides, nat_tests}
 use Rattle.std.proofs.lemmas.List.{ext_get_or}
 use Rattle.std.proofs.Math.Seq.{take-append_seam}
 use Rattle.access.specs.Bits.{bit}
@@ -86,3 +86,8 @@ contains_told xs ys p q =
 -- a row at the front of a list
 pub front : (row rest : List ℕ) → length row ≡ 96 → take 96 (row ++ rest) ≡ row
 front row rest n = subst (λ (k : ℕ). take k (row ++ rest) ≡ row) n (take-append_seam row rest)
+
+-- a bit of a byte, once one entity more is taken: those that were taken have the right
+pub taken_bit : (first old new here right among rest next : Bool) → new ≡ (old || (here && right)) → old ≡ (first || (right && (among && not rest)))
+    → next ≡ (rest && not here) → (here ≡ true → among ≡ true) → new ≡ (first || (right && (among && not next)))
+taken_bit first old new here right among rest next n o m a = grind (arith, nat_tests)

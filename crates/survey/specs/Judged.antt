@@ -12,7 +12,7 @@ abbrev pub account_reasons : List Entity → List ℕ → List Reason
 account_reasons es accounts =
     (not (list_all (λ a. stands es a) accounts), code NotListed) ∷ (not (list_all (λ a. fits is_account es a) accounts), code WrongKind) ∷ []
 
--- nothing for accounts, or why the numbers are declined
+-- nothing for accounts, or why the numbers are refused
 abbrev pub judged_accounts : List Entity → List ℕ → Result (Unit {0}) Code
 judged_accounts es accounts = judged (account_reasons es accounts) tt
 

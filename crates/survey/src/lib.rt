@@ -5,10 +5,10 @@ mod accounts;
 mod comparing;
 mod laws;
 mod reaching;
-mod uses;
 mod writing;
 
 pub use accounts::{is_account, judge_accounts};
 pub use comparing::Comparison;
 pub use laws::laws_stand;
-pub use reaching::{Pair, compare, reach, row_of};
+pub use reaching::{Pair, compare, reach};
+pub use writing::row_of;

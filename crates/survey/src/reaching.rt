@@ -4,6 +4,7 @@ ghost use Rattle.access.specs.declared.entities.Kind.TheVariants.{Account};
 ghost use Rattle.access.specs.Codes.{code, coded};
 ghost use Rattle.catalogue.specs.Sound.{Sound};
 ghost use Rattle.runs.specs.Standing.{Is};
+ghost use Rattle.holdings.specs.Told.{Told};
 ghost use Rattle.session.specs.Models.{lists_of};
 ghost use Rattle.survey.specs.Judged.{judged_accounts, judged_row};
 ghost use Rattle.survey.specs.Used.{IsRow};
@@ -11,12 +12,12 @@ ghost use Rattle.survey.specs.Pairs.{Paired};
 
 use crate::accounts::judge_accounts;
 use crate::comparing::{Comparison, compare_rows};
-use crate::writing::write_row;
+use crate::writing::row_of;
 use access::Refusal;
 use catalogue::Catalogue;
+use holdings::Holdings;
 use rows::WIDTH;
-use saturation::saturate;
-use session::{Model, RunState, Workspace};
+use session::{Model, Workspace};
 
 // The rows of two accounts, and which of them contains the other.
 #[derive(Clone, Copy, Debug, PartialEq, Eq)]
@@ -26,36 +27,15 @@ pub struct Pair {
     pub comparison: Comparison,
 }
 
-// Writes the row of an account of a loaded catalogue.
-fn fill_row(model: &Model, state: &mut RunState, account: u8, room: &mut [u8])
-    requires account { Is (lists_of model.now) Account account }
-    requires room { 96 ≤ length room.old }
-    ensures row { IsRow (lists_of model.now) account (take 96 room.new) }
-    ensures rest { drop 96 room.new ≡ drop 96 room.old }
-    ensures len { length room.new ≡ length room.old }
-{
-    let mut kept = saturate(model, state, account);
-    write_row(model, state, &mut kept, room);
-}
-
-// The row of an account of a loaded catalogue.
-pub fn row_of(model: &Model, state: &mut RunState, account: u8) -> [u8; WIDTH]
-    requires { Is (lists_of model.now) Account account }
-    ensures { IsRow (lists_of model.now) account result }
-{
-    let mut row = [0; WIDTH];
-    fill_row(model, state, account, &mut row);
-    row
-}
-
 // The rows of two accounts of a loaded catalogue.
-fn pair_of(model: &Model, state: &mut RunState, first: u8, second: u8) -> Pair
+fn pair_of(model: &Model, tables: &Holdings, first: u8, second: u8) -> Pair
+    requires told { Told (lists_of model.now) tables.now }
     requires first { Is (lists_of model.now) Account first }
     requires second { Is (lists_of model.now) Account second }
     ensures { Paired (lists_of model.now) first second result }
 {
-    let first_row = row_of(model, state, first);
-    let second_row = row_of(model, state, second);
+    let first_row = row_of(model, tables, first);
+    let second_row = row_of(model, tables, second);
     let comparison = compare_rows(&first_row, &second_row);
     Pair {
         first: first_row,
@@ -83,7 +63,9 @@ pub fn reach<C: Catalogue>(
     if room.len() < WIDTH {
         return Err(Refusal::NoRoom);
     }
-    fill_row(&workspace.model, &mut workspace.state, account, room);
+    let tables = Holdings::of(&workspace.model);
+    let row = row_of(&workspace.model, &tables, account);
+    room[..WIDTH].copy_from_slice(&row);
     Ok(())
 }
 
@@ -99,5 +81,6 @@ pub fn compare<C: Catalogue>(
 {
     workspace.model.load(catalogue);
     judge_accounts(workspace.model.entities(), &[first, second])?;
-    Ok(pair_of(&workspace.model, &mut workspace.state, first, second))
+    let tables = Holdings::of(&workspace.model);
+    Ok(pair_of(&workspace.model, &tables, first, second))
 }

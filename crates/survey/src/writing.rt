@@ -1,37 +1,39 @@
 // How a row is written.
-ghost use Rattle.std.specs.Prelude.{◌≡◌, ℕ, ◌≤◌, ◌<◌, length, take, drop, slice_index};
-ghost use Rattle.access.specs.Sets.{byte_at};
-ghost use Rattle.runs.specs.Laws.{Tells};
+ghost use Rattle.std.specs.Prelude.{◌≡◌, ℕ, ◌<◌, true, ◌&&◌, ◌||◌, ◌==◌, slice_index};
+ghost use Rattle.access.specs.declared.entities.Kind.TheVariants.{Account};
+ghost use Rattle.access.specs.Bits.{bit};
+ghost use Rattle.holdings.specs.Told.{Told};
+ghost use Rattle.runs.specs.Standing.{Is};
 ghost use Rattle.session.specs.Models.{lists_of};
-ghost use Rattle.session.specs.Reached.{state_of};
-ghost use Rattle.saturation.specs.Kept.{Keeps};
-ghost use Rattle.saturation.specs.Progress.{Goes};
 ghost use Rattle.survey.specs.Used.{IsRow};
 
-use crate::uses::uses;
-use order::Row;
-use saturation::KeptRows;
-use session::{Model, RunState};
+use extent::Extent;
+use holdings::Holdings;
+use order::Bits;
+use rows::WIDTH;
+use session::Model;
 
-// Fills the room of a row with the numbers of its sets.
-fn put_sets(row: &Row, room: &mut [u8])
-    requires { length room.old ≡ 96 }
-    ensures bytes { (e : ℕ) → e < 96 → slice_index room.new e ≡ byte_at row.now.sets e }
-    ensures len { length room.new ≡ 96 }
+// Adds right k to the bytes of these entities.
+fn put_right(row: &mut [u8; WIDTH], k: usize, entities: u128)
+    requires right { k < 7 }
+    requires entities { (e : ℕ) → bit entities e ≡ true → e < 96 }
+    ensures { (e j : ℕ) → bit (slice_index row.new e) j ≡ (bit (slice_index row.old e) j || (j == k && bit entities e)) }
 {
-    for (e, place) in room.iter_mut().enumerate() {
-        *place = u8::from(row.at(e));
+    for e in Bits(entities) {
+        row[e] |= 1 << k;
     }
 }
 
-// Writes the row of the account whose state tells what its sessions can come to.
-pub fn write_row(model: &Model, state: &RunState, kept: &mut KeptRows, room: &mut [u8])
-    requires goes { Goes (lists_of model.now) state.now }
-    requires keeps { Keeps (lists_of model.now) (state_of (lists_of model.now) state.now) kept.old }
-    requires room { 96 ≤ length room.old }
-    ensures row { let L = lists_of model.now in (a : ℕ) → Tells L a (state_of L state.now) → IsRow L a (take 96 room.new) }
-    ensures rest { drop 96 room.new ≡ drop 96 room.old }
-    ensures len { length room.new ≡ length room.old }
+// The row of an account of a loaded catalogue, whose tables these are.
+pub fn row_of(model: &Model, tables: &Holdings, account: u8) -> [u8; WIDTH]
+    requires account { Is (lists_of model.now) Account account }
+    requires told { Told (lists_of model.now) tables.now }
+    ensures { IsRow (lists_of model.now) account result }
 {
-    put_sets(&uses(model, state, kept), &mut room[..96]);
+    let extent = Extent::of(model, tables, account);
+    let mut row = [0; WIDTH];
+    for k in 0..7 {
+        put_right(&mut row, k, extent.uses(tables, k));
+    }
+    row
 }

@@ -30,7 +30,7 @@ put_line-at-requires-clause-room c =
     let t = rw c.entities-entities.ensures at (sym c.is_account.ensures ∙ c.if-is_account.true) in
     let few = below_fewer L.entities c.loop-e.e (length L.entities) (rw c.entities-entities.ensures at c.loop-e-test.true) t in
     let inside = lines_fit (length (accounts_below L.entities c.loop-e.e)) n (n + 9) few in
-    rw c.entities-entities.ensures (omega (arith, inside, lines_long L _ text lines, puts.place, puts_long puts, c.requires))
+    rw c.entities-entities.ensures (omega (arith, inside, lines_long L _ text lines, puts.place, puts_long puts, c.requires.room))
 
 pub loop-e-preserved : goal.loop-e-preserved
 loop-e-preserved c =
