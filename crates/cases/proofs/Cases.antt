@@ -7,7 +7,7 @@ use Rattle.access.specs.Bits.{bit}
 use Rattle.access.specs.Lists.{Lists}
 use Rattle.access.specs.Numbers.{right_number, rights}
 use Rattle.access.proofs.SetLaws.{bit_past}
-use Rattle.access.proofs.NumberLaws.{right_numbered}
+use Rattle.access.proofs.NumberLaws.{right_numbered, right_listed}
 use Rattle.catalogue.specs.Sound.{Sound}
 use Rattle.book.specs.Gathered.{lists_after}
 use Rattle.runs.specs.States.{State, start}
@@ -15,7 +15,7 @@ use Rattle.survey.specs.Used.{UsedAt, IsRow}
 use Rattle.cases.specs.Cases.{Sense, to_use, to_hold, Can, Claim, by, never, shows, exceeds, Meaning, Case, cases, EachCase}
 use Rattle.cases.proofs.Gathering.{calls_sound}
 use Rattle.cases.proofs.Deciding.{and_then, or_else, any, every, each, keep, only, more_of, upto, same_bool, holdsᵇ, usesᵇ, solves, reached}
-use Rattle.cases.proofs.TestLaws.{passes, passed, and_left, and_right, or_cases, Passing, any_some, every_at, in_upto, in_rights}
+use Rattle.cases.proofs.TestLaws.{passes, passed, and_left, and_right, or_cases, Passing, any_some, every_at, in_upto}
 use Rattle.cases.proofs.Saturating.{use_decided, hold_decided}
 use Rattle.cases.proofs.Running.{runᵇ, someone, use_by_true, hold_by_true}
 
@@ -88,7 +88,7 @@ module _ (L : Lists) (s : Sound L) where
     at_byte e l = every_at _ _ (and_right _ _ (and_right _ _ h)) e (in_upto 96 e l)
 
     at_right : (e : ℕ) (r : Right) → e < 96 → T (same_bool (oneᵇ row e r) (usesᵇ L (reached L enough a) e r))
-    at_right e r l = every_at _ _ (and_right _ _ (at_byte e l)) r (in_rights r)
+    at_right e r l = every_at _ _ (and_right _ _ (at_byte e l)) r (right_listed r)
 
     small : (e : ℕ) → e < 96 → slice_index row e < 2 ^ 7
     small e l = ltb→lt _ _ (and_left _ _ (at_byte e l))

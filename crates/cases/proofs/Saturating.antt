@@ -22,9 +22,10 @@ use Rattle.runs.specs.Laws.{Tells}
 use Rattle.runs.proofs.RightLaws.{holds_stands}
 use Rattle.runs.proofs.Growing.{part_same}
 use Rattle.runs.proofs.Covering.{every_more}
+use Rattle.access.proofs.NumberLaws.{right_listed}
 use Rattle.runs.proofs.Realizing.{rules_are_steps, saturation_tells}
 use Rattle.cases.proofs.Deciding.{or_else, any, every, each, numbers, are, objects, holdsᵇ, alike_record, alike_member, alike_entry, alike_line, Move, switching, granting, joining, calling, following, taking, lending, added, done_there, there, enteredᵇ, applies, actor_moves, entry_moves, moves, idle, move_by, move_all, sweeps, stop_or, closedᵇ, reached, solves, usesᵇ}
-use Rattle.cases.proofs.TestLaws.{passes, passed, and_left, and_right, and_both, or_cases, Passing, any_some, some_any, every_at, in_each, in_map, in_rights, entry_same, line_same, found, found_number, number_found, record_eq, member_eq, entry_eq, line_eq}
+use Rattle.cases.proofs.TestLaws.{passes, passed, and_left, and_right, and_both, or_cases, Passing, any_some, some_any, every_at, in_each, in_map, entry_same, line_same, found, found_number, number_found, record_eq, member_eq, entry_eq, line_eq}
 use Rattle.cases.proofs.Decided.{is_true, true_is, stands_in, in_are, object_true, true_object, in_objects, holds_true, true_holds, may_true, true_may, plant_true, true_plant, one_owner_true, true_one_owner, does_true, true_does}
 
 -- what a move adds is there
@@ -122,7 +123,7 @@ module _ (L : Lists) (f : Sound L) where
     shut G (Rule.grant {a} {e} {r} m t h) = at_rest (granting a e r)
         (by_actor a _ m
         (Memᴰ.append_right (map (switching a) (are L kind.Account))
-        (Memᴰ.append_left _ (in_each (λ d. map (granting a d) rights) e _ (stands_in L e t) (in_map (granting a e) r (in_rights r))))))
+        (Memᴰ.append_left _ (in_each (λ d. map (granting a d) rights) e _ (stands_in L e t) (in_map (granting a e) r (right_listed r))))))
         (and_both _ _ (number_found a m) (and_both _ _ (passes t) (true_may L f F e r h)))
     shut G (Rule.join {a} {q} {v} m i j h) = at_rest (joining a q v)
         (by_actor a _ m

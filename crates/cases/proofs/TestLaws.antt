@@ -7,7 +7,6 @@ use Rattle.access.specs.declared.entities.Kind.TheVariants as kind
 use Rattle.access.specs.declared.entities.Mode.{Mode}
 use Rattle.access.specs.declared.entities.Mode.TheVariants.{Creator, Parent}
 use Rattle.access.specs.declared.rights.Right.{Right}
-use Rattle.access.specs.declared.rights.Right.TheVariants.{Select, Insert, Update, Delete, Alter, Execute, Impersonate}
 use Rattle.access.specs.declared.rights.RightRecord.{RightRecord}
 use Rattle.access.specs.declared.roles.Member.{Member}
 use Rattle.access.specs.declared.code.Event.TheVariants.{Inserted, Updated, Deleted}
@@ -19,7 +18,7 @@ use Rattle.access.specs.declared.code.Action.{Action}
 use Rattle.access.specs.declared.code.Action.TheVariants as action
 use Rattle.access.specs.declared.code.Line.{Line}
 use Rattle.access.specs.Lists.{◌∈◌}
-use Rattle.access.specs.Numbers.{kind_number, right_number, rights}
+use Rattle.access.specs.Numbers.{kind_number, right_number}
 use Rattle.access.specs.Places.{place_of}
 use Rattle.access.proofs.NumberLaws.{same_right}
 use Rattle.catalogue.specs.Judgements.{in_parent}
@@ -167,15 +166,6 @@ in_upto (suc n) e h = elim (equal_or_not e n) [
 -- equality
 pub right_eq : (r s : Right) → T (alike_right r s) → r ≡ s
 right_eq r s h = same_right r s (eqb→eq _ _ h)
-
-pub in_rights : (r : Right) → r ∈ rights
-in_rights Select = Memᴰ.head refl
-in_rights Insert = Memᴰ.tail (Memᴰ.head refl)
-in_rights Update = Memᴰ.tail (Memᴰ.tail (Memᴰ.head refl))
-in_rights Delete = Memᴰ.tail (Memᴰ.tail (Memᴰ.tail (Memᴰ.head refl)))
-in_rights Alter = Memᴰ.tail (Memᴰ.tail (Memᴰ.tail (Memᴰ.tail (Memᴰ.head refl))))
-in_rights Execute = Memᴰ.tail (Memᴰ.tail (Memᴰ.tail (Memᴰ.tail (Memᴰ.tail (Memᴰ.head refl)))))
-in_rights Impersonate = Memᴰ.tail (Memᴰ.tail (Memᴰ.tail (Memᴰ.tail (Memᴰ.tail (Memᴰ.tail (Memᴰ.head refl))))))
 
 code_kind : ℕ → Kind
 code_kind zero = kind.Container

@@ -1,5 +1,5 @@
 -- The building call that a record is: what it makes of bytes that it takes as new, and that it takes each record of a book.
-use Rattle.std.proofs.Common.{◌≡◌, ℕ, suc, ◌<◌, ◌≤◌, Bool, true, false, cond, not, ◌&&◌, ◌||◌, eqb, List, [], ◌∷◌, ◌++◌, length, is_some, is_ok, Some, None, Ok, Err, Option, Result, unwrap_or, sym, refl, ap, ◌∙◌, arith}
+use Rattle.std.proofs.Common.{◌≡◌, ℕ, suc, ◌<◌, ◌≤◌, Bool, true, false, cond, not, ◌&&◌, ◌||◌, eqb, List, [], ◌∷◌, ◌++◌, length, is_some, Some, None, Ok, Err, Option, Result, unwrap_or, sym, refl, ap, ◌∙◌, arith}
 use Rattle.std.proofs.lemmas.Bool.{not-false, and_parts, and_from, or_from}
 use Rattle.access.specs.declared.entities.Kind.{Kind}
 use Rattle.access.specs.declared.entities.Mode.{Mode}
@@ -29,6 +29,7 @@ use Rattle.catalogue.specs.Judgements.{judged_kind, judged_entity, entity_reason
 use Rattle.catalogue.specs.Calls.{Outcome, unless, with_entities, with_links, with_rights, with_members, with_lines, placed_link, placed_right, placed_member, placed_line, raised}
 use Rattle.catalogue.specs.Sound.{TakesEntity, TakesRight, TakesMember, TakesLine}
 use Rattle.catalogue.proofs.Judging.{judged_ok}
+use Rattle.catalogue.proofs.Declaring.{taken_ok}
 use Rattle.book.specs.Gathered.{called}
 use Rattle.image.specs.Bytes.{option_number, entity_bytes, link_bytes, right_bytes, member_bytes, line_bytes, numbers_of, called_by}
 use Rattle.image.specs.Reading.{byte, is_new, call_of, numbers_at}
@@ -95,15 +96,11 @@ entity_made l b w new =
     new_ok entity_bytes _ b (length l.entities) l _ (judged_entity l.entities (byte b 0) (byte b 1) (byte b 2) (byte b 3))
     (λ x j. entity_code l.entities (byte b 0) (byte b 1) (byte b 2) (byte b 3) x j ∙ four b w) (λ x h. refl) new
 
-ok_is : {X : Type 0} (r : Result X Code) → is_ok r ≡ true → (x : X) × (r ≡ Ok x)
-ok_is (Ok x) e = (x, refl)
-ok_is (Err c) e = absurd cc
-
 pub entity_taken : (l : Lists) (x : Entity) → TakesEntity l.entities x
     → called l (call_of Entities (entity_bytes x)) ≡ record { answer = Ok (length l.entities); lists = with_entities l (l.entities ++ x ∷ []) }
 entity_taken l x t =
     let es = l.entities in
-    let (y, e) = ok_is (judged_kind es x.parent x.owner (Some x.mode) (Some x.kind)) t in
+    let (y, e) = taken_ok (judged_kind es x.parent x.owner (Some x.mode) (Some x.kind)) t in
     let same : x ≡ y = (judged_ok (entity_reasons es x.parent x.owner (Some x.mode) x.kind) (entity_named x.parent x.owner (Some x.mode) x.kind) y e).1 in
     let j : judged_entity es (kind_number x.kind) x.parent x.owner (mode_number x.mode) ≡ Ok x =
     rw (mode_there x.mode, kind_there x.kind) (e ∙ ap Ok (sym same)) in

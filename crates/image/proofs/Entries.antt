@@ -7,6 +7,7 @@ use Rattle.access.specs.Codes.{Code}
 use Rattle.access.specs.Lists.{Lists, new_lists}
 use Rattle.catalogue.specs.declared.names.ListName.{ListName}
 use Rattle.catalogue.specs.declared.names.ListName.TheVariants.{Entities, Links, Rights, Members, Lines}
+use Rattle.catalogue.proofs.Judging.{reason_off}
 use Rattle.image.specs.Layout.{in_order, index_of, width_of, least_of, most_of}
 use Rattle.image.specs.Reading.{fault, and_then, start_at, count_at, entry_fits, entry_end, end_after, contents_end, body_in, firsts, built_parts, read_lists, Laid}
 
@@ -15,10 +16,6 @@ module _ {X : Type 0} where
   pub cond_ok : (b : Bool) (x y : X) (f : Code) → cond {A = Result X Code} b (Ok x) (Err f) ≡ Ok y → (b ≡ true) × (x ≡ y)
   cond_ok true x y f e = (refl, cc)
   cond_ok false x y f e = absurd cc
-
-  cond_past : (b : Bool) (f : Code) (rest : Result X Code) (y : X) → cond b (Err f) rest ≡ Ok y → (b ≡ false) × (rest ≡ Ok y)
-  cond_past true f rest y e = absurd cc
-  cond_past false f rest y e = (refl, e)
 
 pub then_ok : {X Y : Type 0} (r : Result X Code) (f : X → Result Y Code) (y : Y) → and_then r f ≡ Ok y → (x : X) × ((r ≡ Ok x) × (f x ≡ Ok y))
 then_ok (Ok x) f y e = (x, (refl, e))
@@ -58,7 +55,7 @@ pub record Good (bytes : List ℕ) : Type 0 where
 
 pub contents_good : (bytes : List ℕ) (end : ℕ) → contents_end bytes ≡ Ok end → Good bytes
 contents_good bytes end e =
-    let long = cond_past (ltb (length bytes) 20) (fault 0 5) _ end e in
+    let long = reason_off (ltb (length bytes) 20) (fault 0 5) _ end e in
     let last = then_ok (end_after bytes in_order 20) _ end long.1 in
     let s0 = then_ok (entry_end bytes Entities 20) _ _ last.1.0 in
     let s1 = then_ok (entry_end bytes Links s0.0) _ _ s0.1.1 in

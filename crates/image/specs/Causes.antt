@@ -19,7 +19,7 @@ abbrev pub answer_at : ListName → List ℕ → Lists → ℕ → Result ℕ Co
 answer_at p rest l zero = (first_call p rest l).answer
 answer_at p rest l (suc n) = answer_at p (drop (width_of p) rest) (first_call p rest l).lists n
 
--- of records numbered from k on, each before the n-th is new when it comes, and the n-th is not: it is declined or stands already
+-- of records numbered from k on, each before the n-th is new when it comes, and the n-th is not: it is refused or stands already
 pub record FirstNot (p : ListName) (rest : List ℕ) (l : Lists) (k n : ℕ) : Type 0 where
   pub before : (i : ℕ) → i < n → answer_at p rest l i ≡ Ok (k + i)
   pub here : answer_at p rest l n ≡ Ok (k + n) → ⊥

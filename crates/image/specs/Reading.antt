@@ -91,7 +91,7 @@ is_new (Err c) k = false
 abbrev pub new_or : Result ℕ Code → ListName → ℕ → Result (Unit {0}) Code
 new_or answer p k = cond (is_new answer k) (Ok tt) (Err (fault (part_of p) k))
 
--- n records from record k on, each as its call; the first that is declined or stands already is the fault (Causes has the law)
+-- n records from record k on, each as its call; the first that is refused or stands already is the fault (Causes has the law)
 abbrev pub built_from : ListName → List ℕ → Lists → ℕ → ℕ → Result Lists Code
 built_from p rest l k zero = Ok l
 built_from p rest l k (suc n) =

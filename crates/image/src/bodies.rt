@@ -41,7 +41,7 @@ fn call_of(list: ListName, bytes: &[u8]) -> Call
     }
 }
 
-// A record's call must have returned the next number: a record that is declined or stands already is a fault.
+// A record's call must have returned the next number: a record that is refused or stands already is a fault.
 fn check_new(answer: Result<usize, Refusal>, list: ListName, next: usize) -> Result<(), Refusal>
     requires { next < 65536 }
     ensures { coded result ≡ new_or (coded answer) list next }

@@ -31,7 +31,7 @@ pub const DAMAGES: [(usize, u8, u8, u16); 19] = [
     (14, 1, 0, 3),
     (18, 2, 0, 4),
     (19, 1, 0, 5),
-    // entities: those of a new book, and one that is declined
+    // entities: those of a new book, and one that is refused
     (20, 1, 1, 0),
     (31, 1, 1, 2),
     (34, 2, 1, 3),

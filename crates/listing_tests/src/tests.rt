@@ -1,4 +1,4 @@
-// The exposures and the listing of two accounts, of which the first may impersonate the second, and what is declined.
+// The exposures and the listing of two accounts, of which the first may impersonate the second, and what is refused.
 use access::Refusal;
 use book::Book;
 use examples::{build, pair_calls};

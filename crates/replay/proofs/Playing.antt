@@ -58,7 +58,7 @@ module _ {L M : Lists} {a : ℕ} {steps : List Step} {T : State} (e : ℕ) (righ
   comes_from zero u = let ran = run_same u.run run in (u.actor, rw ran at u.acted, rw (ran, ← same) at u.holds)
   comes_from (suc sense) u = rw (run_same u.run run, ← same) at u.holds
 
--- a question that is not declined is of an account
+-- a question that is not refused is of an account
 pub question_account : {L : Lists} {a s e r : ℕ} {q : Question} → Asks L.entities a s e r q → Is L Account q.account
 question_account {L} {a} {s} {e} {r} {q} asks =
     let ok = judged_ok (question_reasons L.entities a s e r) (unwrap_or (right_at r) Select) q.right asks.right in

@@ -15,7 +15,7 @@ abbrev pub sense_number : Sense → ℕ
 sense_number Use = 0
 sense_number Hold = 1
 
--- the question is the one that the numbers ask, and is not declined
+-- the question is the one that the numbers ask, and is not refused
 pub record Asks (es : List Entity) (a s e r : ℕ) (q : Question) : Type 0 where
   pub account : q.account ≡ a
   pub sense : sense_number q.sense ≡ s

@@ -25,7 +25,7 @@ question_reasons es a sense e r =
     ∷ (not (fits is_account es a), code WrongKind)
     ∷ []
 
--- the right that a question asks for, or why it is declined
+-- the right that a question asks for, or why it is refused
 abbrev pub judged_question : List Entity → ℕ → ℕ → ℕ → ℕ → Result Right Code
 judged_question es a sense e r = judged (question_reasons es a sense e r) (unwrap_or (right_at r) Select)
 

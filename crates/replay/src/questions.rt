@@ -1,4 +1,4 @@
-// Which question the numbers of a call ask, or why it is declined.
+// Which question the numbers of a call ask, or why it is refused.
 ghost use Rattle.std.specs.Prelude.{◌≡◌, Err, MatchResult};
 ghost use Rattle.access.specs.Codes.{Names, code};
 ghost use Rattle.replay.specs.Questions.{sense_at, Asks};

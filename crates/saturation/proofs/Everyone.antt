@@ -6,14 +6,13 @@ use Rattle.access.specs.declared.rights.RightRecord.{RightRecord}
 use Rattle.access.specs.declared.sets.RightSet.{RightSet}
 use Rattle.access.specs.Lists.{◌∈◌, Lists, public}
 use Rattle.access.specs.Numbers.{right_number}
-use Rattle.access.specs.Orders.{RoleBelow, Within}
+use Rattle.access.specs.Orders.{Within}
 use Rattle.access.specs.Sets.{told}
 use Rattle.order.specs.Spreads.{Carried}
 use Rattle.runs.proofs.Ordering.{place_stands}
 use Rattle.runs.specs.States.{State}
 use Rattle.runs.specs.Rights.{right_record, Has, by_record, CanGrant, by_option, InRole, as_anyone, as_member, Holds, MayGrant}
-use Rattle.runs.proofs.Grounds.{public_role}
-use Rattle.runs.proofs.RightLaws.{Knows, holds_known, may_known}
+use Rattle.runs.proofs.RightLaws.{Knows, public_in, holds_known, may_known}
 use Rattle.fitting.proofs.Finding.{from_before, first_in, last_in}
 use Rattle.fitting.proofs.Smalls.{stands_small}
 use Rattle.lookup.proofs.Slots.{opened}
@@ -51,9 +50,6 @@ module _ {L : Lists} {s : RunState} (g : Goes L s) where
       (λ n. inl n)
       (from_before (vec_items s.grants) L.rights m)
 
-  public_in : (T : State) (a : ℕ) → InRole L T a public
-  public_in T a = as_anyone (RoleBelow.itself (public_role L g.ran.sound))
-
   in_bare : {a q : ℕ} → InRole L S a q → InRole L B a q
   in_bare (as_anyone b) = as_anyone b
   in_bare (as_member m b) = as_member m b
@@ -75,9 +71,9 @@ module _ {L : Lists} {s : RunState} (g : Goes L s) where
 
     holds_split : {a e : ℕ} {r : Right} → e < 96 → Holds L S a e r → Holds L B a e r ⊎ (told carried e (right_number r) ≡ true)
     holds_split {a} l (Holds.itself k) =
-        ⊎_elim (λ n. inl (Holds.itself n)) (λ n. ⊎_elim (λ p. inl (Holds.in_role (public_in B a) p)) (λ t. inr t) n) (has_split l k)
+        ⊎_elim (λ n. inl (Holds.itself n)) (λ n. ⊎_elim (λ p. inl (Holds.in_role (public_in L g.ran.sound B a) p)) (λ t. inr t) n) (has_split l k)
     holds_split {a} l (Holds.in_role i k) =
-        ⊎_elim (λ n. inl (Holds.in_role (in_bare i) n)) (λ n. ⊎_elim (λ p. inl (Holds.in_role (public_in B a) p)) (λ t. inr t) n) (has_split l k)
+        ⊎_elim (λ n. inl (Holds.in_role (in_bare i) n)) (λ n. ⊎_elim (λ p. inl (Holds.in_role (public_in L g.ran.sound B a) p)) (λ t. inr t) n) (has_split l k)
 
     may_split : {a e : ℕ} {r : Right} → e < 96 → MayGrant L S a e r → MayGrant L B a e r ⊎ (told given e (right_number r) ≡ true)
     may_split l (MayGrant.itself k) = ⊎_elim (λ n. inl (MayGrant.itself n)) (λ t. inr t) (can_split l k)
@@ -89,12 +85,12 @@ module _ {L : Lists} {s : RunState} (g : Goes L s) where
         → ((e k : ℕ) → e < 96 → told may e k ≡ (told granted e k || told given e k)) → Rowed L S a all may
     rowed_united {a} w u v = record {
       holds = λ e r l. (
-        λ t. ⊎_elim (λ b. holds_known bare_knows ((w.holds e r l).0 b)) (λ b. let (d, over, m) = c.sound e r l b in Holds.in_role (public_in S a) (by_record over m))
+        λ t. ⊎_elim (λ b. holds_known bare_knows ((w.holds e r l).0 b)) (λ b. let (d, over, m) = c.sound e r l b in Holds.in_role (public_in L g.ran.sound S a) (by_record over m))
             (or_cases _ _ (sym (u e (right_number r) l) ∙ t)),
         λ k. u e (right_number r) l ∙ ⊎_elim (λ b. or_left _ _ ((w.holds e r l).1 b)) (λ t. or_right _ _ t) (holds_split l k),
       );
       grants = λ e r l. (
-        λ t. ⊎_elim (λ b. may_known bare_knows ((w.grants e r l).0 b)) (λ b. MayGrant.in_role (public_in S a) (by_option ((h e r l).0 b)))
+        λ t. ⊎_elim (λ b. may_known bare_knows ((w.grants e r l).0 b)) (λ b. MayGrant.in_role (public_in L g.ran.sound S a) (by_option ((h e r l).0 b)))
             (or_cases _ _ (sym (v e (right_number r) l) ∙ t)),
         λ k. v e (right_number r) l ∙ ⊎_elim (λ b. or_left _ _ ((w.grants e r l).1 b)) (λ t. or_right _ _ t) (may_split l k),
       );

@@ -9,12 +9,12 @@ use Rattle.runs.specs.States.{pair}
 use Rattle.runs.specs.Runs.{worker}
 use Rattle.runs.proofs.Grounds.{calls, runners, IsCall, to}
 use Rattle.runs.proofs.Realizing.{worker_account}
-use Rattle.fitting.proofs.Smalls.{is_small}
+use Rattle.fitting.proofs.Smalls.{is_small, object_small}
 use Rattle.lookup.specs.Tables.{SmallEntry}
 use Rattle.session.specs.Reached.{state_of}
 use Rattle.session.specs.declared.states.RunState.{RunState}
 use Rattle.saturation.specs.Progress.{Goes}
-use Rattle.saturation.proofs.Standing.{object_small, peopled, entered_small}
+use Rattle.saturation.proofs.Standing.{peopled, entered_small}
 
 called_object : {L : Lists} {y : Object} → IsCall L (action.Call y) → IsObject L y
 called_object (to i) = i

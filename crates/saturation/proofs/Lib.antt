@@ -7,6 +7,4 @@ pub mod Going
 pub mod Staying
 pub mod Planted
 pub mod Turning
-pub mod Bitwise
-pub mod Owners
 pub mod Sweeps

@@ -19,11 +19,11 @@ use Rattle.runs.proofs.Grounds.{is_stands}
 use Rattle.runs.proofs.RightLaws.{may_self, opened}
 use Rattle.runs.proofs.Growing.{part_trans}
 use Rattle.runs.proofs.Realizing.{public_proper}
-use Rattle.fitting.proofs.Smalls.{is_small}
+use Rattle.fitting.proofs.Smalls.{is_small, object_small}
 use Rattle.session.specs.Reached.{state_of}
 use Rattle.session.specs.declared.states.RunState.{RunState}
 use Rattle.saturation.specs.Progress.{no_lists, steps_of, gained, Once, Few, Ran, Goes, Grown}
-use Rattle.saturation.proofs.Standing.{gained_rights, object_small, peopled}
+use Rattle.saturation.proofs.Standing.{gained_rights, peopled}
 use Rattle.saturation.proofs.Gaining.{once_acting, once_planting, once_granting, once_entering}
 use Rattle.saturation.proofs.Onwards.{onward_trans}
 use Rattle.saturation.proofs.Going.{Committed, longer, ran_on, part_on, onward_on}

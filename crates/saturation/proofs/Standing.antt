@@ -4,10 +4,9 @@ use Rattle.access.specs.declared.code.Object.{Object}
 use Rattle.access.specs.declared.code.Action.{Action}
 use Rattle.access.specs.declared.code.Action.TheVariants as action
 use Rattle.access.specs.Lists.{◌∈◌, Lists}
-use Rattle.access.specs.Places.{place_of}
 use Rattle.runs.specs.declared.steps.Step.{Step}
 use Rattle.runs.specs.declared.steps.Entry.{Entry}
-use Rattle.runs.specs.Standing.{IsObject, a_procedure, a_trigger, created, a_grant, a_join}
+use Rattle.runs.specs.Standing.{a_grant, a_join}
 use Rattle.runs.specs.States.{State, Sub}
 use Rattle.runs.specs.Runs.{Allowed, switch, grant, join, call, follow, plant}
 use Rattle.runs.specs.Turns.{Tried}
@@ -19,31 +18,26 @@ use Rattle.lookup.specs.Tables.{SmallEntry, SmallAction, SmallStep, Known}
 use Rattle.session.specs.Reached.{state_of, Filled}
 use Rattle.session.specs.declared.states.RunState.{RunState}
 use Rattle.fitting.proofs.Finding.{first_in, from_alone}
-use Rattle.fitting.proofs.Smalls.{stands_small, is_small}
+use Rattle.fitting.proofs.Smalls.{stands_small, is_small, object_small}
 use Rattle.saturation.specs.Progress.{steps_of, gained, Ran, Goes}
 
 module _ {L : Lists} (s : Sound L) where
-  pub object_small : {x : Object} → IsObject L x → place_of x < 96
-  object_small (a_procedure i) = is_small s i
-  object_small (a_trigger i) = is_small s i
-  object_small (created i m) = is_small s i
-
   call_small : {w : ℕ} {t : Action} → w < 96 → IsCall L t → SmallAction w t
-  call_small h (to o) = (object_small o, h)
+  call_small h (to o) = (object_small s o, h)
 
   call_known : {t : Action} → IsCall L t → (y : Object) × (t ≡ action.Call y)
   call_known (to {y = y} o) = (y, refl)
 
   module _ {S : State} (p : Peopled L S) where
     pub entry_small : {n : Entry} → n ∈ S.entered → SmallEntry n
-    entry_small m = let e = p.entered _ m in (object_small e.0, is_small s e.1)
+    entry_small m = let e = p.entered _ m in (object_small s e.0, is_small s e.1)
 
     pub step_small : {t : Step} → Tried L t → Allowed L S t → SmallStep t
     step_small q (switch m i h) = is_small s i
     step_small q (grant {g = g} m (a_grant o e) h) = stands_small s g.entity e
     step_small q (join m (a_join a r) h) = (is_small s a, is_small s r)
     step_small q (plant m i h n t) = tt
-    step_small q (call m i h) = (object_small i, is_small s (p.acted _ m))
+    step_small q (call m i h) = (object_small s i, is_small s (p.acted _ m))
     step_small (Tried.follow {l = l} n) (follow m i h) =
         call_small (is_small s (worker_account L s (p.entered _ m).1 (runners L s l n))) (calls L s l n)
 

@@ -9,25 +9,21 @@ use Rattle.runs.specs.declared.steps.Step.{Step}
 use Rattle.runs.specs.declared.steps.Step.TheVariants.{Switch, Grant, Join, Plant, Call, Follow}
 use Rattle.runs.specs.declared.steps.Entry.{Entry}
 use Rattle.runs.specs.States.{State, Part, pair, done}
-use Rattle.runs.specs.Runs.{LineStands, in_catalogue, planted, follow, MayDo, worker}
+use Rattle.runs.specs.Runs.{follow, MayDo, worker}
 use Rattle.runs.proofs.RightLaws.{holds_more, may_more}
-use Rattle.runs.proofs.Growing.{part_trans, after_more, allowed_more}
+use Rattle.runs.proofs.Growing.{part_trans, stands_more, after_more, allowed_more}
 use Rattle.session.specs.declared.states.RunState.{RunState}
 use Rattle.fitting.specs.Fits.{Powers, Opens, Backed}
 use Rattle.saturation.specs.Progress.{Grown, Serves, Done, Adds, Taken, Lent, Foothold}
 
 module _ (L : Lists) {S T : State} (p : Part S T) where
-  stands_more : {l : Line} → LineStands L S l → LineStands L T l
-  stands_more (in_catalogue m) = in_catalogue m
-  stands_more (planted m) = planted (p.planted _ m)
-
   opens_more : (t : Step) → Opens L S t → Opens L T t
   opens_more (Switch a v) m = p.acted a m
   opens_more (Grant a g) m = p.acted a m
   opens_more (Join a j) m = p.acted a m
   opens_more (Plant a l) m = p.acted a m
   opens_more (Call a x) m = p.acted a m
-  opens_more (Follow v l) m = (p.entered _ m.0, stands_more m.1)
+  opens_more (Follow v l) m = (p.entered _ m.0, stands_more p m.1)
 
   backed_more : {a : ℕ} {held granted : List RightSet} → Backed L S a held granted → Backed L T a held granted
   backed_more b = record { holds = λ e r t. holds_more p (b.holds e r t); grants = λ e r t. may_more p (b.grants e r t) }

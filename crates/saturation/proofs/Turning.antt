@@ -1,22 +1,18 @@
 -- What is tried one by one is all tried.
-use Rattle.std.proofs.Common.{◌≡◌, ℕ, ◌+◌, ◌<◌, ◌≤◌, true, List, [], ◌∷◌, ◌++◌, length, get_or, take, sym, refl, ap, subst, ⊎_elim}
-use Rattle.std.proofs.lemmas.List.{take_more, take_all}
+use Rattle.std.proofs.Common.{◌≡◌, ℕ, ◌<◌, true, List, [], ◌∷◌, refl, ap}
 use mathlib.Core.List.Memᴰ
 use Rattle.access.specs.declared.rights.Right.{Right}
-use Rattle.access.specs.declared.rights.Right.TheVariants.{Select, Insert, Update, Delete, Alter, Execute, Impersonate}
 use Rattle.access.specs.declared.code.Event.TheVariants.{Inserted, Updated, Deleted}
 use Rattle.access.specs.declared.code.Object.{Object}
 use Rattle.access.specs.declared.code.Object.TheVariants as object
 use Rattle.access.specs.declared.roles.Member.{Member}
 use Rattle.access.specs.Lists.{◌∈◌, public}
-use Rattle.access.specs.Numbers.{rights}
 use Rattle.access.specs.Places.{place_of}
 use Rattle.runs.specs.declared.steps.Step.{Step}
 use Rattle.runs.specs.declared.steps.Step.TheVariants.{Switch, Grant, Join, Call}
 use Rattle.runs.specs.States.{State}
 use Rattle.runs.specs.Rights.{right_record}
 use Rattle.runs.specs.Runs.{doer_of}
-use Rattle.runs.specs.Limits.{Each}
 use Rattle.runs.specs.Turns.{Tried}
 use Rattle.lookup.specs.Tables.{SmallMember, SmallStep}
 use Rattle.session.specs.Reached.{state_of}
@@ -25,30 +21,6 @@ use Rattle.fitting.specs.Fits.{Powers, Opens}
 use Rattle.fitting.proofs.Allowing.{fits_to}
 use Rattle.saturation.specs.Progress.{Serves, Adds, Begins}
 use Rattle.saturation.proofs.Standing.{peopled, step_small}
-
-of_only : {A : Type 0} (P : A → Type 0) {x y : A} → P y → x ∈ (y ∷ []) → P x
-of_only P p (Memᴰ.head e) = subst P (sym e) p
-of_only P p (Memᴰ.tail m) = elim m [ ]
-
-each_more : {A : Type 0} (P : A → Type 0) (xs : List A) {y : A} → Each P xs → P y → Each P (xs ++ y ∷ [])
-each_more P xs f p x m = ⊎_elim (f x) (of_only P p) (Memᴰ.append_cases xs m)
-
--- what holds of each element that was taken, and of the next one, holds of each with one more
-pub taken_more : {A : Type 0} (P : A → Type 0) (xs : List A) (i : ℕ) (d : A) → i < length xs
-    → Each P (take i xs) → P (get_or xs i d) → Each P (take (i + 1) xs)
-taken_more P xs i d h f p = rw (take_more xs i d h) (each_more P (take i xs) f p)
-
-pub all_taken : {A : Type 0} (P : A → Type 0) (xs : List A) (i : ℕ) → length xs ≤ i → Each P (take i xs) → Each P xs
-all_taken P xs i h f = rw (take_all i xs h) at f
-
-pub right_there : (r : Right) → r ∈ rights
-right_there Select = Memᴰ.head refl
-right_there Insert = Memᴰ.tail (Memᴰ.head refl)
-right_there Update = Memᴰ.tail (Memᴰ.tail (Memᴰ.head refl))
-right_there Delete = Memᴰ.tail (Memᴰ.tail (Memᴰ.tail (Memᴰ.head refl)))
-right_there Alter = Memᴰ.tail (Memᴰ.tail (Memᴰ.tail (Memᴰ.tail (Memᴰ.head refl))))
-right_there Execute = Memᴰ.tail (Memᴰ.tail (Memᴰ.tail (Memᴰ.tail (Memᴰ.tail (Memᴰ.head refl)))))
-right_there Impersonate = Memᴰ.tail (Memᴰ.tail (Memᴰ.tail (Memᴰ.tail (Memᴰ.tail (Memᴰ.tail (Memᴰ.head refl))))))
 
 -- the objects that entity e can have
 abbrev pub objects_of : ℕ → List Object

@@ -14,10 +14,10 @@ ghost use Rattle.saturation.specs.Progress.{Goes, Grown, Done};
 
 use crate::footholds::entrant;
 use crate::keeping::KeptRows;
-use crate::numbers::without;
 use crate::trying::{attempt, is_entered};
 use access::{Action, Line, Object, Runner};
 use fitting::Actor;
+use grid::without;
 use order::Bits;
 use runs::{Entry, Step, worker as worker_of};
 use session::{Model, RunState};

@@ -101,7 +101,7 @@ impl CarriedRow {
 }
 
 // Adds to each entity the rights that another row has there.
-pub fn add_row(row: &mut Row, more: &Row)
+fn add_row(row: &mut Row, more: &Row)
     ensures { (e k : ℕ) → e < 96 → told row.new.sets e k ≡ (told row.old.sets e k || told more.now.sets e k) }
 {
     for e in 0..96 {

@@ -11,12 +11,13 @@ ghost use Rattle.saturation.specs.Among.{HasOwner};
 ghost use Rattle.saturation.specs.Progress.{Goes, Grown, Serves, Lent, Foothold};
 
 use crate::footholds::{foothold_for, owners_of_footholds};
-use crate::numbers::{owner_is_in, without};
+use crate::numbers::owner_is_in;
 use crate::objects::{has_objects, objects_at};
 use crate::planting::lend;
 use crate::trying::acts;
 use access::Object;
 use fitting::{Actor, is_object};
+use grid::without;
 use order::Bits;
 use runs::Entry;
 use session::RunState;

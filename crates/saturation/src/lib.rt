@@ -13,7 +13,6 @@ mod sweeping;
 mod taking;
 mod trying;
 
-pub use keeping::{KeptRows, add_row};
 pub use sweeping::saturate;
 
 // The role that everyone is in.

@@ -8,27 +8,14 @@ ghost use Rattle.saturation.specs.Among.{AllAccounts, HasOwner};
 
 use access::Kind;
 use fitting::is_kind;
+use order::has_bit;
 use session::Model;
-
-// The numbers of one set that are not in another.
-pub fn without(bits: u128, other: u128) -> u128
-    ensures { (v : ℕ) → bit result v ≡ (bit bits v && not (bit other v)) }
-{
-    bits & !other
-}
 
 // The set with one number more; past the end it stays as it is.
 pub fn with(bits: u128, x: u8) -> u128
     ensures { (v : ℕ) → v < 128 → bit result v ≡ (bit bits v || v == x) }
 {
     if x < 128 { bits | 1 << x } else { bits }
-}
-
-// Whether a number is in the set.
-pub fn contains(bits: u128, x: u8) -> bool
-    ensures { result ≡ bit bits x }
-{
-    x < 128 && (bits >> x) & 1 == 1
 }
 
 // The set with one account more, if there is an account of the number.
@@ -61,7 +48,7 @@ pub fn owner_is_in(model: &Model, owners: u128, entity: u8) -> bool
     model
         .entities()
         .get(entity as usize)
-        .is_some_and(|e| contains(owners, e.owner))
+        .is_some_and(|e| has_bit(owners, e.owner as usize))
 }
 
 // The set with the owner of an entity more.

@@ -16,11 +16,12 @@ ghost use Rattle.saturation.specs.Among.{AllAccounts};
 ghost use Rattle.saturation.specs.Progress.{Grown, Serves, Adds};
 
 use crate::PUBLIC;
-use crate::numbers::{accounts_of, without};
+use crate::numbers::accounts_of;
 use crate::objects::{has_objects, objects_at};
 use crate::trying::{attempt, is_entered};
 use access::{Kind, Member, Object, Right, RightRecord, RightSet};
 use fitting::{Actor, is_kind};
+use grid::without;
 use order::Bits;
 use runs::{Entry, Step};
 use session::RunState;

@@ -88,13 +88,11 @@ fn sweep(model: &Model, state: &mut RunState, kept: &mut KeptRows)
     follow_all(model, state, kept);
 }
 
-// Opens a session of an account, and does steps until none adds anything; returns the rows that are kept then.
-pub fn saturate(model: &Model, state: &mut RunState, account: u8) -> KeptRows
+// Opens a session of an account, and does steps until none adds anything.
+pub fn saturate(model: &Model, state: &mut RunState, account: u8)
     requires { Is (lists_of model.now) Account account }
     ensures tells { Tells (lists_of model.now) account (state_of (lists_of model.now) state.new) }
     ensures run { Run (lists_of model.now) (start (lists_of model.now) account) state.new.steps.items (state_of (lists_of model.now) state.new) }
-    ensures goes { Goes (lists_of model.now) state.new }
-    ensures keeps { Keeps (lists_of model.now) (state_of (lists_of model.now) state.new) result }
     ensures few { length state.new.steps.items ≤ 4096 }
 {
     state.open(model, account);
@@ -103,7 +101,7 @@ pub fn saturate(model: &Model, state: &mut RunState, account: u8) -> KeptRows
         let before = state.steps.len();
         sweep(model, state, &mut kept);
         if state.steps.len() == before {
-            return kept;
+            return;
         }
     }
 }

@@ -8,12 +8,12 @@ ghost use Rattle.runs.specs.States.{pair};
 ghost use Rattle.session.specs.Reached.{state_of};
 ghost use Rattle.saturation.specs.Progress.{Grown, Serves, Taken};
 
-use crate::numbers::without;
 use crate::objects::{has_objects, objects_at};
 use crate::planting::take;
 use crate::trying::is_entered;
 use access::{Object, Right};
 use fitting::Actor;
+use grid::without;
 use order::Bits;
 use runs::Entry;
 use session::RunState;

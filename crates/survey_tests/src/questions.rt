@@ -46,7 +46,7 @@ fn accepts(
     replay(workspace, book, question, steps) == Ok(())
 }
 
-// A replay accepts the steps, and declines them without any one of them.
+// A replay accepts the steps, and refuses them without any one of them.
 fn is_missed(
     rt: &(impl Abort + AllocGlobal),
     book: &Book,

@@ -1,4 +1,4 @@
-// What is declined, by the first row of the refusals that applies, and that nothing changes then.
+// What is refused, by the first row of the refusals that applies, and that nothing changes then.
 use crate::books::pair;
 use crate::questions::{MARK, full};
 use access::{QuestionNumbers, Refusal};
@@ -9,7 +9,7 @@ use std::test::Fail;
 use survey::{compare, reach};
 use witness::witness;
 
-// The row of an account of the pair is declined, and every byte of the room stays.
+// The row of an account of the pair is refused, and every byte of the room stays.
 fn no_row(
     rt: &(impl Abort + AllocGlobal),
     account: u8,
@@ -26,7 +26,7 @@ fn no_row(
     Ok(())
 }
 
-// The steps of a question about the pair are declined, and every place of the room stays.
+// The steps of a question about the pair are refused, and every place of the room stays.
 fn no_steps(
     rt: &(impl Abort + AllocGlobal),
     asked: QuestionNumbers,

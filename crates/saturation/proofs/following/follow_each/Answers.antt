@@ -1,7 +1,7 @@
 use Rattle.fitting.proofs.Finding.{at_in}
 use Rattle.saturation.proofs.Going.{grown_same, grown_trans}
 use Rattle.saturation.proofs.Staying.{done_later, done_before}
-use Rattle.saturation.proofs.Turning.{taken_more}
+use Rattle.fitting.proofs.Taking.{taken_more}
 use Rattle.saturation.proofs.following.follow_each.Goals as goal
 
 pub loop-line-init : goal.loop-line-init

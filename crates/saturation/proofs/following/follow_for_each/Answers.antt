@@ -1,6 +1,6 @@
 use Rattle.fitting.proofs.Allowing.{opens_from}
 use Rattle.session.specs.Models.{lists_of}
-use Rattle.saturation.proofs.Bitwise.{left_first, left_more, left_none}
+use Rattle.grid.proofs.Bitwise.{left_first, left_more, left_none}
 use Rattle.saturation.proofs.Going.{grown_same, grown_trans}
 use Rattle.saturation.proofs.Staying.{done_later, done_before}
 use Rattle.saturation.proofs.following.follow_for_each.Goals as goal

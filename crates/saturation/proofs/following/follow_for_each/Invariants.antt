@@ -5,7 +5,7 @@ use Rattle.session.specs.Models.{lists_of}
 use Rattle.session.specs.Reached.{state_of}
 use Rattle.saturation.specs.Kept.{Keeps}
 use Rattle.saturation.specs.Progress.{Grown, Done}
-use Rattle.saturation.proofs.Bitwise.{Left}
+use Rattle.grid.proofs.Bitwise.{Left}
 use Rattle.saturation.proofs.following.follow_for_each.Given as goal
 
 -- who entered the object is left, or the line was followed for it

@@ -1,7 +1,7 @@
 use Rattle.std.proofs.Common.{arith}
 use Rattle.std.proofs.lemmas.Bool.{both_ways}
 use Rattle.std.proofs.lemmas.Bool.Decides.{not_from_Decides}
-use Rattle.saturation.proofs.Bitwise.{left_first, left_more, left_none}
+use Rattle.grid.proofs.Bitwise.{left_first, left_more, left_none}
 use Rattle.saturation.proofs.Standing.{entered_small}
 use Rattle.saturation.proofs.footholds.entrant.Goals as goal
 

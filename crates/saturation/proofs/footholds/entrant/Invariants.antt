@@ -2,7 +2,7 @@ use Rattle.access.specs.Lists.{◌∈◌, Lists}
 use Rattle.runs.specs.States.{pair}
 use Rattle.session.specs.Reached.{state_of}
 use Rattle.saturation.specs.Progress.{Goes}
-use Rattle.saturation.proofs.Bitwise.{Left}
+use Rattle.grid.proofs.Bitwise.{Left}
 use Rattle.saturation.proofs.footholds.entrant.Given as goal
 
 -- each number is left, or no account that entered the object

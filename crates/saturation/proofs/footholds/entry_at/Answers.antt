@@ -2,7 +2,7 @@ use Rattle.std.proofs.Common.{rules}
 use Rattle.fitting.proofs.Finding.{at_in}
 use Rattle.saturation.proofs.Standing.{entered_small}
 use Rattle.saturation.proofs.Staying.{in_all}
-use Rattle.saturation.proofs.Turning.{taken_more}
+use Rattle.fitting.proofs.Taking.{taken_more}
 use Rattle.saturation.proofs.footholds.entry_at.Goals as goal
 
 pub loop-object-init : goal.loop-object-init

@@ -1,6 +1,6 @@
 use Rattle.std.proofs.Common.{refl, below_more, arith}
 use Rattle.std.proofs.lemmas.Bool.{both_ways}
-use Rattle.saturation.proofs.Owners.{owner_small}
+use Rattle.fitting.proofs.Owners.{owner_small}
 use Rattle.saturation.proofs.footholds.owners_of_footholds.Goals as goal
 use Rattle.saturation.proofs.footholds.owners_of_footholds.Goals.{then-is_foothold, else-is_foothold}
 

@@ -1,7 +1,7 @@
 use Rattle.std.proofs.Common.{rules}
 use Rattle.saturation.proofs.Going.{grown_same, grown_trans}
 use Rattle.saturation.proofs.Staying.{serves_more, lent_later, foothold_later, in_all}
-use Rattle.saturation.proofs.Turning.{taken_more}
+use Rattle.fitting.proofs.Taking.{taken_more}
 use Rattle.saturation.proofs.lending.lends_at.Goals as goal
 
 pub lends_to-requires-clause-serves : goal.lends_to-requires-clause-serves

@@ -1,7 +1,7 @@
 use Rattle.std.proofs.Common.{is_some, ap, ⊎_elim, arith}
 use Rattle.std.proofs.lemmas.Bool.{both_ways}
 use Rattle.fitting.proofs.Smalls.{stands_small}
-use Rattle.saturation.proofs.Bitwise.{left_first, left_more, left_none}
+use Rattle.grid.proofs.Bitwise.{left_first, left_more, left_none}
 use Rattle.saturation.proofs.Going.{grown_same, grown_trans}
 use Rattle.saturation.proofs.Staying.{serves_more, lent_later, foothold_later}
 use Rattle.saturation.proofs.Standing.{acted_small}

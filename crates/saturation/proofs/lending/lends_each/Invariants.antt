@@ -2,7 +2,7 @@ use Rattle.access.specs.Lists.{◌∈◌}
 use Rattle.runs.specs.States.{pair}
 use Rattle.session.specs.Reached.{state_of}
 use Rattle.saturation.specs.Progress.{Grown, Lent}
-use Rattle.saturation.proofs.Bitwise.{Left}
+use Rattle.grid.proofs.Bitwise.{Left}
 use Rattle.saturation.proofs.lending.lends_each.Given as goal
 
 -- who is acted as is left or has entered the object

@@ -1,7 +1,7 @@
 use Rattle.std.proofs.Common.{rules}
 use Rattle.saturation.proofs.Going.{grown_same, grown_trans}
 use Rattle.saturation.proofs.Staying.{serves_more, adds_later, adds_before}
-use Rattle.saturation.proofs.Turning.{taken_more}
+use Rattle.fitting.proofs.Taking.{taken_more}
 use Rattle.saturation.proofs.stepping.calls_at.Goals as goal
 
 pub calls_one-requires : goal.calls_one-requires

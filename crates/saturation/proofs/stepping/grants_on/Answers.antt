@@ -4,7 +4,8 @@ use Rattle.runs.specs.Turns.{Tried}
 use Rattle.saturation.proofs.Gaining.{grants_already}
 use Rattle.saturation.proofs.Going.{grown_same, grown_trans}
 use Rattle.saturation.proofs.Staying.{serves_more, adds_later, adds_before}
-use Rattle.saturation.proofs.Turning.{taken_more, all_taken, right_there}
+use Rattle.fitting.proofs.Taking.{taken_more, all_taken}
+use Rattle.access.proofs.NumberLaws.{right_listed}
 use Rattle.saturation.proofs.stepping.grants_on.Goals as goal
 
 pub returns-then-not-grants_more-clause-added : goal.returns-then-not-grants_more-clause-added
@@ -30,4 +31,4 @@ pub loop-right-init : goal.loop-right-init
 loop-right-init c = record { grown = grown_same c.requires.goes; added = λ r m. elim m [ ] }
 
 pub returns-clause-added : goal.returns-clause-added
-returns-clause-added c r = all_taken _ rights _ (omega (arith, c.loop-right-test.false)) c.loop-right.invariant.added r (right_there r)
+returns-clause-added c r = all_taken _ rights _ (omega (arith, c.loop-right-test.false)) c.loop-right.invariant.added r (right_listed r)

@@ -3,7 +3,7 @@ use Rattle.runs.specs.Turns.{Tried}
 use Rattle.runs.specs.Rights.{member_record}
 use Rattle.fitting.proofs.Deciding.{join_from}
 use Rattle.fitting.proofs.Smalls.{is_small}
-use Rattle.saturation.proofs.Bitwise.{left_without, left_more, left_none}
+use Rattle.grid.proofs.Bitwise.{left_without, left_more, left_none}
 use Rattle.saturation.proofs.Gaining.{joins_already}
 use Rattle.saturation.proofs.Going.{grown_same, grown_trans}
 use Rattle.saturation.proofs.Staying.{serves_more, adds_later, adds_before}

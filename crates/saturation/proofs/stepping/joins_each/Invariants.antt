@@ -5,7 +5,7 @@ use Rattle.runs.specs.Rights.{member_record}
 use Rattle.runs.specs.Standing.{Is}
 use Rattle.session.specs.Reached.{state_of}
 use Rattle.saturation.specs.Progress.{Grown, Adds}
-use Rattle.saturation.proofs.Bitwise.{Left}
+use Rattle.grid.proofs.Bitwise.{Left}
 use Rattle.saturation.proofs.stepping.joins_each.Given as goal
 
 -- each number is left, or what it adds is there

@@ -1,6 +1,6 @@
 use Rattle.std.proofs.Common.{arith}
 use Rattle.runs.specs.Turns.{Tried}
-use Rattle.saturation.proofs.Bitwise.{left_without, left_more, left_none}
+use Rattle.grid.proofs.Bitwise.{left_without, left_more, left_none}
 use Rattle.saturation.proofs.Gaining.{acts_already}
 use Rattle.saturation.proofs.Going.{grown_same, grown_trans}
 use Rattle.saturation.proofs.Staying.{serves_more, adds_later, adds_before}

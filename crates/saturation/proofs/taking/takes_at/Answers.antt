@@ -2,7 +2,7 @@ use Rattle.std.proofs.Common.{rules}
 use Rattle.saturation.proofs.Going.{grown_same, grown_trans}
 use Rattle.saturation.proofs.Staying.{serves_more, taken_later, in_all}
 use Rattle.saturation.proofs.Standing.{entered_small}
-use Rattle.saturation.proofs.Turning.{taken_more}
+use Rattle.fitting.proofs.Taking.{taken_more}
 use Rattle.saturation.proofs.taking.takes_at.Goals as goal
 
 pub takes_from-requires-clause-serves : goal.takes_from-requires-clause-serves

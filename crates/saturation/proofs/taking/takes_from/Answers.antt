@@ -1,5 +1,5 @@
 use Rattle.std.proofs.Common.{inl, arith}
-use Rattle.saturation.proofs.Bitwise.{left_without, left_more, left_none}
+use Rattle.grid.proofs.Bitwise.{left_without, left_more, left_none}
 use Rattle.saturation.proofs.Going.{grown_same, grown_trans}
 use Rattle.saturation.proofs.Staying.{serves_more, taken_later}
 use Rattle.saturation.proofs.Standing.{entered_small}

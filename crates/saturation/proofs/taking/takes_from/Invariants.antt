@@ -2,7 +2,7 @@ use Rattle.access.specs.Lists.{◌∈◌}
 use Rattle.runs.specs.States.{pair}
 use Rattle.session.specs.Reached.{state_of}
 use Rattle.saturation.specs.Progress.{Grown, Taken}
-use Rattle.saturation.proofs.Bitwise.{Left}
+use Rattle.grid.proofs.Bitwise.{Left}
 use Rattle.saturation.proofs.taking.takes_from.Given as goal
 
 -- who entered the object is left or taken over
