@@ -215,6 +215,8 @@ struct Tables {
     own: Vec<Rows>,
     /// What each account, by its place among the accounts, holds and may grant by the catalogue.
     first: Vec<Rows>,
+    /// For each object, the places of the accounts that may enter it by the catalogue.
+    enterers: [u16; ENTITIES],
     /// The rights that the catalogue gives everyone with the option.
     given: Row,
     calls: Vec<Call>,
@@ -274,10 +276,12 @@ impl Tables {
             own: own_rows(book, &places),
             places,
             first: Vec::new(),
+            enterers: [0; ENTITIES],
             given: [0; RIGHTS],
             calls: Vec::new(),
         };
         tables.add_rights(book);
+        tables.add_enterers();
         tables.add_calls(book, &objects);
         tables
     }
@@ -296,6 +300,14 @@ impl Tables {
                 rows.add(&self.own[role]);
             }
             self.first.push(rows);
+        }
+    }
+
+    fn add_enterers(&mut self) {
+        for (place, rows) in self.first.iter().enumerate() {
+            for object in Members(rows.enters) {
+                self.enterers[object] |= 1 << place;
+            }
         }
     }
 
@@ -413,54 +425,62 @@ impl<'a> Session<'a> {
         self.enter(place, rows.enters);
     }
 
+    /// The places of the accounts that may enter the object that a line calls.
+    fn allowed(&self, call: &Call) -> u16 {
+        if call.chained || self.more.enters >> call.called & 1 == 1 {
+            u16::MAX
+        } else {
+            self.tables.enterers[call.called as usize]
+        }
+    }
+
     /// Follows a line for the accounts that entered its object, where those under which it runs did not enter the other.
-    fn follow(&mut self, call: &Call, rows: &[Rows]) {
+    fn follow(&mut self, call: &Call) {
         let entrants = self.entrants[call.at as usize];
         let workers = match call.runner {
             None => entrants,
             Some(place) => u16::from(entrants != 0) << place,
         };
         let new = workers & !self.entrants[call.called as usize];
-        for place in Members(new.into()) {
-            if call.chained || rows[place].enters >> call.called & 1 == 1 {
-                self.enter(place, 1 << call.called);
-            }
+        if new == 0 {
+            return;
+        }
+        for place in Members((new & self.allowed(call)).into()) {
+            self.enter(place, 1 << call.called);
         }
     }
 
-    /// Follows all lines, forward and backward, until that enters nothing more.
-    fn follow_all(&mut self, rows: &[Rows]) {
+    /// Follows all lines, forward and backward, until going forward enters nothing more.
+    fn follow_all(&mut self) {
         let calls = &self.tables.calls;
-        let mut added = self.added;
-        self.added = true;
-        while self.added {
+        loop {
             self.added = false;
-            for call in calls.iter().chain(calls.iter().rev()) {
-                self.follow(call, rows);
+            calls.iter().for_each(|call| self.follow(call));
+            if !self.added {
+                return;
             }
-            added |= self.added;
+            calls.iter().rev().for_each(|call| self.follow(call));
         }
-        self.added = added;
     }
 
     /// Takes over each account that entered an object in which the account can plant.
     fn take(&mut self, alters: Set) {
-        let free = !(self.acted | self.given[IMPERSONATE]);
         for (place, &other) in self.tables.accounts.iter().enumerate() {
-            if self.entered[place] & alters != 0 && free >> other & 1 == 1 {
-                self.grant(IMPERSONATE, 1 << other);
+            if self.entered[place] & alters != 0 && !self.acts(other) {
                 self.switch(1 << other);
             }
         }
     }
 
-    /// Lets each account acted as that the account can impersonate enter what it can reach by planting.
-    fn lend(&mut self, alters: Set, impersonates: Set) {
+    /// Lets each account acted as enter what belongs to the owners of entered objects that some account acted as may alter.
+    fn lend(&mut self, alters: Set) {
         let held = self.anyone & alters;
+        if held == 0 {
+            return;
+        }
         let reached = self.tables.owned.iter().filter(|&&set| set & held != 0).fold(0, |all, set| all | set);
-        let lent = self.acted & impersonates;
         for (place, &other) in self.tables.accounts.iter().enumerate() {
-            if reached & !self.entered[place] != 0 && lent >> other & 1 == 1 {
+            if self.acts(other) {
                 self.enter(place, reached);
             }
         }
@@ -471,7 +491,6 @@ impl<'a> Session<'a> {
         self.begin(place, rows);
         if self.anyone & rows.alters != 0 {
             self.take(rows.alters);
-            self.lend(rows.alters, rows.holds[IMPERSONATE]);
         }
     }
 
@@ -483,22 +502,28 @@ impl<'a> Session<'a> {
         }
     }
 
-    /// Sweeps, until one adds nothing: turns of the accounts acted as, and then the lines.
+    /// Turns of the accounts acted as, and what they lend one another.
+    fn begin_all(&mut self, rows: &mut [Rows], seen: &mut [usize; ACCOUNTS]) {
+        let mut alters = 0;
+        for place in 0..rows.len() {
+            if self.acts(self.tables.accounts[place]) {
+                self.renew(&mut rows[place], &mut seen[place]);
+                self.turn(place, &rows[place]);
+                alters |= rows[place].alters;
+            }
+        }
+        self.lend(alters);
+    }
+
+    /// Turns, and then sweeps of lines and turns until the turns add nothing.
     fn saturate(&mut self) {
         let mut rows = self.tables.first.clone();
         let mut seen = [0; ACCOUNTS];
+        self.begin_all(&mut rows, &mut seen);
         loop {
+            self.follow_all();
             self.added = false;
-            for place in 0..rows.len() {
-                if self.acts(self.tables.accounts[place]) {
-                    self.renew(&mut rows[place], &mut seen[place]);
-                    self.turn(place, &rows[place]);
-                }
-            }
-            for (rows, seen) in rows.iter_mut().zip(&mut seen) {
-                self.renew(rows, seen);
-            }
-            self.follow_all(&rows);
+            self.begin_all(&mut rows, &mut seen);
             if !self.added {
                 return;
             }
