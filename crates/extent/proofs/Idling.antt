@@ -43,7 +43,7 @@ module _ {L : Lists} {h : Holdings} {s : Extent} (sound : Sound L) (told : Told 
       (λ k. absurd (both_ways _ (ap (λ m. noted h.enterers.rows m w) (sym n.called) ∙ some)
       ((enterer_held told y w (called_object sound l listed y a) is s).1
       (ap (λ m. noted s.holds.rows m (place_of y)) (sym n.right) ∙ ap (λ m. noted s.holds.rows c.right m) (sym n.place) ∙ everyone) k)))
-      (λ o. absurd (both_ways _ owner (n.owner o)))
+      (λ o. absurd (both_ways _ owner (n.owner.1 o)))
       may)
       (idle.none v w (ap (λ m. noted s.entrants.rows m v) n.at ∙ t) (runs l.runner refl v))
 

@@ -1,5 +1,5 @@
 -- What the numbers of lines tell.
-use Rattle.std.specs.Prelude.{◌≡◌, ℕ, true, List, Some}
+use Rattle.std.specs.Prelude.{◌≡◌, ℕ, true, List, Some, Decides}
 use Rattle.std.specs.List.{slice_get}
 use Rattle.access.specs.declared.code.Object.{Object}
 use Rattle.access.specs.declared.code.Runner.TheVariants as runner
@@ -19,7 +19,7 @@ pub record Calls (L : Lists) (l : Line) (c : Call) (y : Object) : Type 0 where
   pub called : c.called ≡ slot_of y
   pub place : c.place ≡ place_of y
   pub right : c.right ≡ right_number (entry_right y)
-  pub owner : OneOwner L l.object y → c.one_owner ≡ true
+  pub owner : Decides c.one_owner (OneOwner L l.object y)
   pub caller : l.runner ≡ runner.Caller → c.runner ≡ 0
   pub account : (w : ℕ) → l.runner ≡ runner.Account w → bit c.runner w ≡ true
 
