@@ -10,7 +10,7 @@ ghost use Rattle.session.specs.Reached.{Filled, state_of};
 ghost use Rattle.session.specs.Rowed.{Rowed};
 ghost use Rattle.fitting.specs.Smalls.{Small};
 ghost use Rattle.replay.specs.Situations.{state_in};
-ghost use Rattle.replay.specs.Keeping.{SeenTells, SameRecords};
+ghost use Rattle.replay.specs.Keeping.{SeenTells, RowsOf, SameRecords};
 
 use crate::courses::opening::doer;
 use access::{Action, Line, Right};
@@ -68,12 +68,28 @@ fn keeps_records(step: Step) -> bool
     )
 }
 
-// The rows that tell of the state after a step too.
+// Leaves the rows that tell of the state after a step too.
 #[tactic(auto, using(crate::proofs::Playing::seen_stays))]
-fn kept_over(seen: Option<Seen>, step: Step) -> Option<Seen>
-    ensures { (L : Lists) (S : State) → SeenTells L S seen → SeenTells L (after S step) result }
+fn keep_over(seen: &mut Option<Seen>, step: Step)
+    ensures { (L : Lists) (S : State) → SeenTells L S seen.old → SeenTells L (after S step) seen.new }
 {
-    if keeps_records(step) { seen } else { None }
+    if !keeps_records(step) {
+        *seen = None;
+    }
+}
+
+// Makes the rows that are kept those of an account.
+// Kept: that an account is below 96 is a clause; a type for such numbers would reach into every step.
+fn look(seen: &mut Option<Seen>, model: &Model, state: &RunState, account: u8)
+    requires small { account < 96 }
+    requires kept { SeenTells (lists_of model.now) (state_of (lists_of model.now) state.now) seen.old }
+    ensures { RowsOf (lists_of model.now) (state_of (lists_of model.now) state.now) account seen.new }
+{
+    if matches!(seen, Some(kept) if kept.account == account) {
+        return;
+    }
+    let rows = model.rows(&state.grants, &state.joins, account);
+    *seen = Some(Seen { account, rows });
 }
 
 impl<'a> Course<'a> {
@@ -113,32 +129,17 @@ impl<'a> Course<'a> {
         &self.state.steps
     }
 
-    // The rows of an account.
-    // Kept: that an account is below 96 is a clause; a type for such numbers would reach into every step.
-    fn rows(&mut self, account: u8) -> Rows
-        requires small { account < 96 }
-        ensures same { self.new ≡ self.old }
-        ensures sound { Sound self.old.lists }
-        ensures rows { Rowed self.old.lists (state_in self.old) account result.holds.sets result.grants.sets }
-    {
-        if let Some(seen) = self.seen
-            && seen.account == account
-        {
-            return seen.rows;
-        }
-        let state = &*self.state;
-        let rows = self.model.rows(&state.grants, &state.joins, account);
-        self.seen = Some(Seen { account, rows });
-        rows
-    }
-
     // Whether an account holds a right.
     pub fn holds(&mut self, account: u8, n: u8, right: Right) -> bool
         requires small { account < 96 }
         ensures same { self.new ≡ self.old }
         ensures told { Decides result (Holds self.old.lists (state_in self.old) account n right) }
     {
-        tells(&self.rows(account).holds, n, right)
+        look(&mut self.seen, self.model, self.state, account);
+        match &self.seen {
+            Some(seen) => tells(&seen.rows.holds, n, right),
+            None => false,
+        }
     }
 
     // Whether some account acted as holds a right.
@@ -162,12 +163,18 @@ impl<'a> Course<'a> {
         ensures same { self.new ≡ self.old }
         ensures told { Decides result (Allowed self.old.lists (state_in self.old) step) }
     {
-        self.opens(step)
-            && Actor {
+        if !self.opens(step) {
+            return false;
+        }
+        look(&mut self.seen, self.model, self.state, doer(step));
+        match &self.seen {
+            Some(seen) => Actor {
                 model: self.model,
-                rows: &self.rows(doer(step)),
+                rows: &seen.rows,
             }
-            .fits(step)
+            .fits(step),
+            None => false,
+        }
     }
 
     // Adds a step.
@@ -180,7 +187,7 @@ impl<'a> Course<'a> {
         ensures steps { self.new.came.steps.items ≡ self.old.came.steps.items ++ step ∷ [] }
         ensures few { (n : ℕ) → Filled self.old.came n → Filled self.new.came (n + 1) }
     {
-        self.seen = kept_over(self.seen, step);
+        keep_over(&mut self.seen, step);
         self.state.commit(step);
     }
 }

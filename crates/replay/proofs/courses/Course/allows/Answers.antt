@@ -1,16 +1,21 @@
 use Rattle.fitting.proofs.Smalls.{doer_small}
 use Rattle.fitting.proofs.Allowing.{allowed_told}
 use Rattle.replay.proofs.courses.Course.allows.Goals as goal
+use Rattle.replay.proofs.courses.Course.allows.Goals.{in-Some, in-None}
 
-pub rows-requires : goal.rows-requires
-rows-requires c =
+pub look-requires-clause-small : goal.look-requires-clause-small
+look-requires-clause-small c =
     let h = c.self.invariant in
-    let opened = rw (← c.self.view_is) at c.opens.ensures.0 c.if-opens.true in
-    record { small = rw c.doer.ensures (doer_small h.sound h.small c.args.step opened) }
+    let opened = rw (← c.self.view_is) at c.opens.ensures.0 c.if-not-opens.false in
+    rw c.doer.ensures (doer_small h.sound h.small c.args.step opened)
 
-pub returns-then-opens-clause-told : goal.returns-then-opens-clause-told
-returns-then-opens-clause-told c =
+pub returns-clause-told : goal.returns-clause-told
+returns-clause-told c =
     let h = c.self.invariant in
-    let opened = rw (← c.self.view_is) at c.opens.ensures.0 c.if-opens.true in
-    let rows = rw (← c.self.view_is, c.doer.ensures) at c.rows.ensures.rows in
-    rw (← c.self.view_is) (allowed_told h.sound h.small rows opened c.fits.ensures)
+    let opened = rw (← c.self.view_is) at c.opens.ensures.0 c.if-not-opens.false in
+    elim c.match-self.branch [
+      | in-Some w ↦
+          let rows = rw (w.in-Some.is, c.doer.ensures) at c.look.ensures in
+          rw (w.result-is, ← c.self.view_is) (allowed_told h.sound h.small rows.1 opened w.fits.ensures)
+      | in-None w ↦ absurd (rw w.in-None.is at c.look.ensures)
+    ]
