@@ -2,3 +2,4 @@ pub mod BitLaws
 pub mod SetLaws
 pub mod Turns
 pub mod NumberLaws
+pub mod Codes

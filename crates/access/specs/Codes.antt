@@ -23,4 +23,4 @@ coded (Err refusal) = Err (code refusal)
 
 -- what a number names, or the refusal of one that is not listed
 abbrev pub Names : {X : Type 0} → Option X → Result X Refusal → Type 0
-Names named r = MatchResult r (λ x. named ≡ Some x) (λ refusal. (named ≡ None) × (refusal ≡ NotListed))
+Names named r = MatchResult r (λ x. named ≡ Some x) (λ refusal. (named ≡ None) × (code refusal ≡ code NotListed))

@@ -52,7 +52,7 @@ pub fn assess(
     first: u8,
     second: u8,
 ) -> Result<Result<Assessment, Refusal>, Refusal>
-    ensures room { MatchResult result (λ _. length changes.now ≤ length responses.old) (λ refusal. (refusal ≡ NoRoom) × (length responses.old < length changes.now)) }
+    ensures room { MatchResult result (λ _. length changes.now ≤ length responses.old) (λ refusal. (code refusal ≡ code NoRoom) × (length responses.old < length changes.now)) }
     ensures refused { OnErr result ((layer.new ≡ layer.old) × (responses.new ≡ responses.old)) }
     ensures made { OnOk result (Made changes.now layer.new responses.new) }
     ensures sound { OnOk result (Sound (meant (stand_of layer.new))) }

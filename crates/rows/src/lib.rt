@@ -3,7 +3,7 @@
 
 ghost use Rattle.std.specs.Prelude.{◌≡◌, ◌≤◌, [], ◌∷◌, length, take, drop, bytes_eq, Decides, is_ok, OnOk, OnErr, IfOk, IfErr};
 ghost use Rattle.access.specs.declared.refusals.Refusal.TheVariants.{NoRoom};
-ghost use Rattle.access.specs.Codes.{coded};
+ghost use Rattle.access.specs.Codes.{code, coded};
 ghost use Rattle.rows.specs.Rows.{has_row, row_answer, IsUnion};
 
 #[cfg(test)]
@@ -19,7 +19,7 @@ fn row_of(bytes: &[u8]) -> Result<&[u8], Refusal>
     ensures fits { is_ok result ≡ has_row bytes.now }
     ensures row { IfOk result (λ row. (length row.now ≡ 96) × (row.now ≡ take 96 bytes.now)) }
     ensures room { OnOk result (96 ≤ length bytes.now) }
-    ensures refused { IfErr result (λ refusal. refusal ≡ NoRoom) }
+    ensures refused { IfErr result (λ refusal. code refusal ≡ code NoRoom) }
 {
     bytes.get(..WIDTH).ok_or(Refusal::NoRoom)
 }
