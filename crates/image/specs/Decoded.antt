@@ -74,13 +74,16 @@ entity_decoded l n x s e = entity_back x
 pub link_decoded : (l : Lists) (n : ℕ) (x : Link) → Sound l → slice_get l.links n ≡ Some x → link_of (link_bytes x) ≡ x
 link_decoded l n x s e = refl
 
+pub right_is : (x : RightRecord) → right_of (right_bytes x) ≡ x
+right_is x = rw (right_there x.right, option_there x.option)
+
 pub right_decoded : (l : Lists) (n : ℕ) (x : RightRecord) → Sound l → slice_get l.rights n ≡ Some x → right_of (right_bytes x) ≡ x
-right_decoded l n x s e = rw (right_there x.right, option_there x.option)
+right_decoded l n x s e = right_is x
 
 pub member_decoded : (l : Lists) (n : ℕ) (x : Member) → Sound l → slice_get l.members n ≡ Some x → member_of (member_bytes x) ≡ x
 member_decoded l n x s e = refl
 
-line_is : (es : List Entity) (x : Line) → length es ≤ 96 → TakesLine es x → line_of (line_bytes x) ≡ x
+pub line_is : (es : List Entity) (x : Line) → length es ≤ 96 → TakesLine es x → line_of (line_bytes x) ≡ x
 line_is es x few t = go x.action t.2
   where
     go : (a : Action) → call_fits es a ≡ true → line_of (line_bytes (record { object = x.object; runner = x.runner; action = a })) ≡ record { object = x.object; runner = x.runner; action = a }

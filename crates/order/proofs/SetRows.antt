@@ -2,7 +2,8 @@
 use Rattle.std.proofs.Common.{◌≡◌, ℕ, zero, suc, ◌+◌, ◌*◌, ◌%◌, ◌^◌, ◌<◌, add-one, Bool, true, false, ◌&&◌, ◌||◌, eqb, ltb, List, [], ◌∷◌, length, get_or, set, replicate, sym, refl, ap, lit<, ◌∙◌, ⊎_elim, arith}
 use mathlib.Core.Bool.{or-false}
 use Rattle.std.proofs.lemmas.List.{get_or-set_same, get_or-set_other}
-use Rattle.std.proofs.lemmas.Bool.{cases_eq, eq-eqb, ne_eqb, lt-ltb, and_from, both_ways, or_left, or_right}
+use Rattle.std.proofs.lemmas.Bool.{cases_eq, eq-eqb, ne_eqb, lt-ltb, le-ltb, and_from, both_ways, or_left, or_right}
+use Rattle.std.proofs.lemmas.Bool.Decides.{nat_tests}
 use Rattle.std.proofs.lemmas.Nat.{pow_below}
 use native.Mathlib.Nat.{two-pow-succ, mod-eq_of_lt}
 use Rattle.access.specs.Bits.{bit}
@@ -29,10 +30,21 @@ told_small (s ∷ ss) n e zero k t = omega arith
 told_small (s ∷ ss) n e (suc x) k t = let h = told_small ss (length ss) refl x k t in omega arith
 
 -- a row of one set
-pub told_filled : (n : ℕ) (s : RightSet) (x k : ℕ) → bit s.bits k ≡ false → told (replicate n s) x k ≡ false
-told_filled zero s x k e = bit_zero k
-told_filled (suc n) s zero k e = e
-told_filled (suc n) s (suc x) k e = told_filled n s x k e
+pub told_filled : (n : ℕ) (s : RightSet) (x k : ℕ) → told (replicate n s) x k ≡ (ltb x n && bit s.bits k)
+told_filled zero s x k = bit_zero k ∙ sym (ap (λ b. b && bit s.bits k) (le-ltb x zero (omega arith)))
+told_filled (suc n) s zero k = sym (ap (λ b. b && bit s.bits k) (lt-ltb zero (suc n) (omega arith)))
+told_filled (suc n) s (suc x) k = told_filled n s x k ∙ ap (λ b. b && bit s.bits k) (up x n)
+  where
+    up : (x n : ℕ) → ltb x n ≡ ltb (suc x) (suc n)
+    up x n = grind (arith, nat_tests)
+
+-- a row of empty sets
+pub told_clear : (n : ℕ) (s : RightSet) (x k : ℕ) → bit s.bits k ≡ false → told (replicate n s) x k ≡ false
+told_clear n s x k e = told_filled n s x k ∙ ap (λ b. ltb x n && b) e ∙ neither (ltb x n)
+  where
+    neither : (b : Bool) → (b && false) ≡ false
+    neither true = refl
+    neither false = refl
 
 -- a row of n sets with more rights put in at x
 pub told_set : (ss : List RightSet) (n x : ℕ) (s : RightSet) (more : ℕ → Bool) → x < length ss → x < n

@@ -17,7 +17,7 @@ use Rattle.session.specs.Rowed.{AsOne}
 use Rattle.lookup.proofs.Telling.{any_gives, any_from}
 
 -- roles have numbers below 96
-roles_small : (L : Lists) → Sound L → {q r : ℕ} → RoleBelow L.entities L.links q r → (q < 96) × (r < 96)
+pub roles_small : (L : Lists) → Sound L → {q r : ℕ} → RoleBelow L.entities L.links q r → (q < 96) × (r < 96)
 roles_small L s {q} {r} b =
     let two = (two_orders L s).0.between q r b in
     let most = few L s in
