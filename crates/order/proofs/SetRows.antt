@@ -38,7 +38,7 @@ told_filled (suc n) s (suc x) k = told_filled n s x k ∙ ap (λ b. b && bit s.b
     up : (x n : ℕ) → ltb x n ≡ ltb (suc x) (suc n)
     up x n = grind (arith, nat_tests)
 
--- a row of empty sets
+-- a row of one set has no right that the set has not
 pub told_clear : (n : ℕ) (s : RightSet) (x k : ℕ) → bit s.bits k ≡ false → told (replicate n s) x k ≡ false
 told_clear n s x k e = told_filled n s x k ∙ ap (λ b. ltb x n && b) e ∙ neither (ltb x n)
   where
