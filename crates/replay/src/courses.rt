@@ -1,13 +1,11 @@
 // A run as far as it has come, and what it allows next.
 ghost use Rattle.std.specs.Prelude.{◌≡◌, ℕ, ◌+◌, ◌<◌, true, [], ◌∷◌, ◌++◌, Decides};
 ghost use Rattle.access.specs.Lists.{◌∈◌, Lists};
-ghost use Rattle.catalogue.specs.Sound.{Sound};
 ghost use Rattle.runs.specs.Rights.{Holds};
 ghost use Rattle.runs.specs.Runs.{Allowed, after};
 ghost use Rattle.runs.specs.States.{State, start};
 ghost use Rattle.session.specs.Models.{lists_of};
 ghost use Rattle.session.specs.Reached.{Filled, state_of};
-ghost use Rattle.session.specs.Rowed.{Rowed};
 ghost use Rattle.fitting.specs.Smalls.{Small};
 ghost use Rattle.replay.specs.Situations.{state_in};
 ghost use Rattle.replay.specs.Keeping.{SeenTells, RowsOf, SameRecords};
@@ -68,7 +66,7 @@ fn keeps_records(step: Step) -> bool
     )
 }
 
-// Leaves the rows that tell of the state after a step too.
+// Drops the rows that are kept, unless they tell of the state after a step too.
 #[tactic(auto, using(crate::proofs::Playing::seen_stays))]
 fn keep_over(seen: &mut Option<Seen>, step: Step)
     ensures { (L : Lists) (S : State) → SeenTells L S seen.old → SeenTells L (after S step) seen.new }
@@ -78,7 +76,7 @@ fn keep_over(seen: &mut Option<Seen>, step: Step)
     }
 }
 
-// Makes the rows that are kept those of an account.
+// Makes the rows that are kept those of an account, so that there are some.
 // Kept: that an account is below 96 is a clause; a type for such numbers would reach into every step.
 fn look(seen: &mut Option<Seen>, model: &Model, state: &RunState, account: u8)
     requires small { account < 96 }
